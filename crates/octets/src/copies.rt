@@ -1,0 +1,67 @@
+// Copies into a lent buffer, all or nothing: what does not fit changes nothing, and the answer says so.
+ghost use mathlib.Core.Path.{_≡_};
+ghost use Prim.Native.Nat.{_+_, _≤_};
+ghost use lib.ListN.{length, replicate};
+ghost use Rattle.octets.specs.Places.{part, placed, copyFits, copied, filled};
+ghost use Rattle.octets.specs.Places.{within as Places·within};
+
+// Copies `count` bytes of src, from `from` on, into dst, from `at` on. True where it did.
+pub fn copy_part(src: &[u8], from: usize, count: usize, dst: &mut [u8], at: usize) -> bool
+    ensures told { λ r. ⌜ r ≡ copyFits (now (src .entry)) from count (now (dst .entry)) at ⌝ }
+    ensures left { λ _. ⌜ now (dst .exit) ≡ copied (now (src .entry)) from count (now (dst .entry)) at ⌝ }
+{
+    if !within(src, from, count) {
+        return false;
+    }
+    if !within(dst, at, count) {
+        return false;
+    }
+    copy(src, from, count, dst, at);
+    true
+}
+
+// Fills `count` places of dst, from `at` on, with one byte. True where it did.
+pub fn fill(dst: &mut [u8], at: usize, count: usize, byte: u8) -> bool
+    ensures told { λ r. ⌜ r ≡ Places·within at count (now (dst .entry)) ⌝ }
+    ensures left { λ _. ⌜ now (dst .exit) ≡ filled (now (dst .entry)) at count byte ⌝ }
+{
+    if !within(dst, at, count) {
+        return false;
+    }
+    repeat(dst, at, count, byte);
+    true
+}
+
+// Whether the `count` places from `at` on are all there. No sum here can wrap.
+pub(crate) fn within(s: &[u8], at: usize, count: usize) -> bool
+    ensures { λ r. ⌜ r ≡ Places·within at count (now (s .entry)) ⌝ }
+{
+    if s.len() < at {
+        return false;
+    }
+    count <= s.len() - at
+}
+
+// The loop of copy_part.
+fn copy(src: &[u8], from: usize, count: usize, dst: &mut [u8], at: usize)
+    requires { ⌜ (from + count ≤ length (now src)) × (at + count ≤ length (now dst)) ⌝ }
+    ensures { λ _. ⌜ now (dst .exit) ≡ placed at (part from count (now (src .entry))) (now (dst .entry)) ⌝ }
+{
+    let mut i = 0;
+    while i < count {
+        dst[at + i] = src[from + i];
+        i += 1;
+    }
+}
+
+// The loop of fill.
+fn repeat(dst: &mut [u8], at: usize, count: usize, byte: u8)
+    requires { ⌜ at + count ≤ length (now dst) ⌝ }
+    ensures { λ _. ⌜ now (dst .exit) ≡ placed at (replicate count byte) (now (dst .entry)) ⌝ }
+{
+    let mut i = 0;
+    while i < count {
+        dst[at + i] = byte;
+        i += 1;
+    }
+}
