@@ -17,6 +17,13 @@ use Rattle.octets.proofs.Tabulate.{same}
 use Rattle.octets.proofs.PlaceLaws.{length-part, length-placed, part-placed}
 use Rattle.octets.specs.Numbers.{worth, digits, number, bytesOf, Digits, readNumber, numberFits, written}
 
+-- the address of the commands of 001, Annex A.4 that go by path: A0 00 00 10
+number-example : number (0xA0 ∷ 0x00 ∷ 0x00 ∷ 0x10 ∷ []) ≡ 0xA0000010
+number-example = refl
+
+bytes-example : bytesOf 4 0xA0000010 ≡ 0xA0 ∷ 0x00 ∷ 0x00 ∷ 0x10 ∷ []
+bytes-example = refl
+
 -- zeros in front are worth nothing
 pub worth-zeros : (base k : ℕ) (ds : List ℕ) → worth base (replicate k 0 ++ ds) ≡ worth base ds
 worth-zeros base zero ds = refl

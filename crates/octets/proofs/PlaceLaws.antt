@@ -1,15 +1,17 @@
 -- Laws of parts and places: how long they are, and which byte stands where.
 use mathlib.Core.Path.{_≡_, refl, sym, ap, _∙_}
+use mathlib.Core.Bool.{Bool, true, false, cond, _&&_, false≢true}
+use mathlib.Core.Logic.{_⊎_, inl, inr, ⊎-elim}
 use mathlib.Core.List.{List, [], _∷_, _++_, append-assoc}
 use Prim.Native.Nat.{ℕ, zero, suc, _+_, _-_, _<_, _≤_}
 use native.Mathlib.Omega.{arith}
 use native.Mathlib.Decide.{decLe}
 use native.Mathlib.Nat.{lt-of-not-le}
-use borrow.Author.Tests.{le-leb, lt-leb}
+use borrow.Author.Tests.{leb-true, le-leb, lt-leb}
 use lib.Dec.{leb}
-use lib.ListN.{length, getD, take, drop, length-append, length-take, length-drop, List·getD-append}
+use lib.ListN.{length, getD, take, drop, replicate, length-replicate, length-append, length-take, length-drop, List·getD-append}
 use lib.Seq.{paste, length-take-le, take-length, take-at, drop-at, drop-drop, getD-take, getD-drop, getD-append-add}
-use Rattle.octets.specs.Places.{part, placed}
+use Rattle.octets.specs.Places.{within, part, placed, copyFits, copied, filled}
 
 -- ---- places that are there
 
@@ -71,3 +73,50 @@ module _ (at : ℕ) (p d : List ℕ) (fits : at + length p ≤ length d) where
       ∙ getD-append-add (take at d ++ p) (drop (at + length p) d) (i - (at + length p)) 0
       ∙ getD-drop (at + length p) d (i - (at + length p)) 0
       ∙ ap (λ (k : ℕ). getD d k 0) (omega arith)
+
+-- ---- copies and fills, whether they fit or not
+
+both-true : (a b : Bool) → (a && b) ≡ true → b ≡ true
+both-true true b e = e
+both-true false b e = absurd (false≢true e)
+
+-- d with p placed where a test lets it, and as it was where not: it keeps its length, and every byte outside p's places
+module _ (at : ℕ) (p d : List ℕ) where
+  placed-if-length : (t : Bool) → (t ≡ true → at + length p ≤ length d) → length (cond t (placed at p d) d) ≡ length d
+  placed-if-length true h = length-placed at p d (h refl)
+  placed-if-length false h = refl
+
+  placed-if-outside : (t : Bool) → (t ≡ true → at + length p ≤ length d) → (i : ℕ) → (i < at) ⊎ (at + length p ≤ i)
+      → getD (cond t (placed at p d) d) i 0 ≡ getD d i 0
+  placed-if-outside true h i o = ⊎-elim (placed-before at p d (h refl) i) (placed-after at p d (h refl) i) o
+  placed-if-outside false h i o = refl
+
+module _ (s : List ℕ) (from count : ℕ) (d : List ℕ) (at : ℕ) where
+  copy-room : copyFits s from count d at ≡ true → at + length (part from count s) ≤ length d
+  copy-room e =
+      let r = leb-true (at + count) (length d) (both-true (within from count s) (within at count d) e) in
+      simp length-take (omega arith)
+
+  pub length-copied : length (copied s from count d at) ≡ length d
+  unfolding copied
+  length-copied = placed-if-length at (part from count s) d (copyFits s from count d at) copy-room
+
+  pub copied-outside : (i : ℕ) → (i < at) ⊎ (at + count ≤ i) → getD (copied s from count d at) i 0 ≡ getD d i 0
+  unfolding copied
+  copied-outside i o =
+      placed-if-outside at (part from count s) d (copyFits s from count d at) copy-room i
+      (⊎-elim (λ l. inl l) (λ (g : at + count ≤ i). inr (simp length-take (omega arith))) o)
+
+module _ (d : List ℕ) (at count b : ℕ) where
+  fill-room : within at count d ≡ true → at + length (replicate count b) ≤ length d
+  fill-room e = let r = leb-true (at + count) (length d) e in simp length-replicate (omega arith)
+
+  pub length-filled : length (filled d at count b) ≡ length d
+  unfolding filled
+  length-filled = placed-if-length at (replicate count b) d (within at count d) fill-room
+
+  pub filled-outside : (i : ℕ) → (i < at) ⊎ (at + count ≤ i) → getD (filled d at count b) i 0 ≡ getD d i 0
+  unfolding filled
+  filled-outside i o =
+      placed-if-outside at (replicate count b) d (within at count d) fill-room i
+      (⊎-elim (λ l. inl l) (λ g. inr (simp length-replicate g)) o)

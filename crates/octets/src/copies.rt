@@ -59,9 +59,9 @@ fn repeat(dst: &mut [u8], at: usize, count: usize, byte: u8)
     requires { ⌜ at + count ≤ length (now dst) ⌝ }
     ensures { λ _. ⌜ now (dst .exit) ≡ placed at (replicate count byte) (now (dst .entry)) ⌝ }
 {
-    let mut i = 0;
-    while i < count {
-        dst[at + i] = byte;
-        i += 1;
+    let mut done = 0;
+    while done < count {
+        dst[at + done] = byte;
+        done += 1;
     }
 }

@@ -1,4 +1,5 @@
-// Layer 1.
+// Layer 1, bytes and CRC: the CRC of 001 clause 5.2, numbers in bytes, and copies into lent buffers. Nothing here knows of
+// packets. Every public function takes any input, and promises an equation for what it returns and what it leaves.
 mod copies;
 mod crc;
 mod numbers;

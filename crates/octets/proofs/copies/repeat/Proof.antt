@@ -1,4 +1,4 @@
--- `octets::copies::repeat` meets its contract: after i turns, dst is what it was with i of the bytes pasted.
+-- `octets::copies::repeat` meets its contract: after so many turns, dst is what it was with as many of the bytes pasted.
 use native.Mathlib.Omega.{arith}
 use native.Mathlib.Numerals.{add-one}
 use mathlib.Core.Path.{_≡_, refl, ap, sym, _∙_}
@@ -12,11 +12,11 @@ use Rattle.octets.proofs.copies.repeat.Statement.{statement}
 use Rattle.octets.proofs.copies.repeat.Tie as tie
 
 abbrev Inv-loop : tie.InvT-loop
-Inv-loop dst₀ at count byte i₀ dst i =
-    (i ≤ count) × (dst ≡ paste dst₀ at (replicate count byte) i) × (length dst ≡ length dst₀)
+Inv-loop dst₀ at count byte done₀ dst done =
+    (done ≤ count) × (dst ≡ paste dst₀ at (replicate count byte) done) × (length dst ≡ length dst₀)
 
 abbrev μ-loop : tie.MeasureT-loop
-μ-loop dst₀ at count byte i₀ dst i = count - i
+μ-loop dst₀ at count byte done₀ dst done = count - done
 
 loop-holds : tie.Need-loop-holds Inv-loop μ-loop
 loop-holds c =
@@ -29,8 +29,8 @@ add-dst c = search needs
 slice-write-dst : tie.Need-slice-write-dst Inv-loop μ-loop
 slice-write-dst c = search needs
 
-add-i : tie.Need-add-i Inv-loop μ-loop
-add-i c = search needs
+add-done : tie.Need-add-done Inv-loop μ-loop
+add-done c = search needs
 
 loop-less : tie.Need-loop-less Inv-loop μ-loop
 loop-less c = search needs
@@ -42,8 +42,8 @@ loop-again c =
     let whole = length-replicate (a .count) (a .byte) in (
       search needs,
       rw (at .inv .1, add-one)
-          (rw (getD-replicate (a .count) (at .i) (a .byte) 0 (search needs)) at
-          (paste-suc (now (a .dst)) (a .at) (replicate (a .count) (a .byte)) (at .i) 0 (omega arith) (omega arith))),
+          (rw (getD-replicate (a .count) (at .done) (a .byte) 0 (search needs)) at
+          (paste-suc (now (a .dst)) (a .at) (replicate (a .count) (a .byte)) (at .done) 0 (omega arith) (omega arith))),
       simp length-set (at .inv .2),
     )
 
@@ -54,8 +54,8 @@ returns : tie.Need-returns Inv-loop μ-loop
 returns c =
     let a = c .before .before .args in
     let at = c .before .loop in
-    let whole : length (replicate (a .count) (a .byte)) ≡ at .i = length-replicate (a .count) (a .byte) ∙ omega arith in
-    at .inv .1 ∙ pasted (now (a .dst)) (a .at) (replicate (a .count) (a .byte)) (at .i) whole
+    let whole : length (replicate (a .count) (a .byte)) ≡ at .done = length-replicate (a .count) (a .byte) ∙ omega arith in
+    at .inv .1 ∙ pasted (now (a .dst)) (a .at) (replicate (a .count) (a .byte)) (at .done) whole
 
 pub repeat-spec : {M : Type 1} → statement M
 repeat-spec =
@@ -66,7 +66,7 @@ repeat-spec =
     loop-holds
     add-dst
     slice-write-dst
-    add-i
+    add-done
     loop-less
     loop-again
     same-length

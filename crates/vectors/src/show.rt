@@ -1,0 +1,21 @@
+// Lines of text on standard output.
+
+pub(crate) fn text(s: &[u8]) {
+    io::write_all(1, s);
+}
+
+// A byte as two hexadecimal digits.
+pub(crate) fn byte(b: u8) {
+    io::print_hex(1, b as u64, 2);
+}
+
+// Bytes, each behind a space, and the end of the line.
+pub(crate) fn line(bytes: &[u8]) {
+    let mut i = 0;
+    while i < bytes.len() {
+        text(b" ");
+        byte(bytes[i]);
+        i += 1;
+    }
+    text(b"\n");
+}
