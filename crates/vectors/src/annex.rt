@@ -1,6 +1,12 @@
-// 001, Annex A: its table of the CRC of each byte, and its test patterns.
+// 001's CRC: of no bytes, Annex A's table of the CRC of each byte, and its test patterns.
 ghost use Prim.Native.Nat.{_<_};
 use crate::show;
+
+// 5.2 f.
+pub(crate) fn no_bytes() {
+    show::text(b"the CRC of no bytes:");
+    show::line(&[octets::crc_of(&[])]);
+}
 
 // A.3, eight to a line as there.
 pub(crate) fn table() {

@@ -5,6 +5,7 @@ mod edges;
 mod show;
 
 fn main() {
+    annex::no_bytes();
     annex::table();
     annex::patterns();
     edges::copies();
