@@ -1,18 +1,19 @@
--- Laws of the CRC. All rest on one: the remainder is linear, remainder (r + s) (a + b) = remainder r a + remainder s b,
--- with exclusive or for +.
+-- Laws of the CRC. That it goes on byte by byte rests on one: the remainder is linear, remainder (r + s) (a + b) =
+-- remainder r a + remainder s b, with exclusive or for +.
 use mathlib.Core.Path.{_≡_, refl, sym, ap, ap₂, _∙_}
 use mathlib.Core.List.{List, [], _∷_, _++_, append-assoc, append-nil}
 use Prim.Native.Nat.{ℕ, zero, suc, _+_, _-_, _*_, _/_, _%_, _<_, _≤_}
 use native.Mathlib.Omega.{arith}
-use native.Mathlib.Nat.{mod-lt, zero-lt-suc}
+use native.Mathlib.Decide.{ℕ-discrete}
+use borrow.Author.Tests.{eq-eqb, ne-eqb}
+use lib.Dec.{eqb}
 use lib.Bits.{bitXor, xor-shr, xor-mod, xor-block, xor-self, xor-zero-r, xor-lt}
 use lib.ListN.{length, getD, drop, replicate, drop-of-length-le}
 use lib.Seq.{drop-cons}
 use native.Mathlib.Numerals.{add-one}
-use Rattle.octets.specs.Numbers.{worth}
 use Rattle.octets.specs.Crc.{generator, modulo, remainder, bits, message, mirrored, crc, crcFrom}
 use Rattle.octets.proofs.Tabulate.{same}
-use Rattle.octets.proofs.Xor.{xor-assoc, xor-cross}
+use Rattle.octets.proofs.Xor.{low, xor-assoc, xor-cross}
 
 -- ---- the remainder of a polynomial of degree at most 8, and one coefficient more
 
@@ -32,9 +33,6 @@ unfolding modulo
 modulo-xor p q hp hq =
     rw (xor-shr p q 8, times-xor (p / 256) (q / 256) (omega arith) (omega arith))
     (xor-cross p q (p / 256 * generator) (q / 256 * generator))
-
-low : (n : ℕ) → n % 2 < 2
-low n = mod-lt n (zero-lt-suc 1)
 
 next-xor : (r s a b : ℕ) → r < 256 → s < 256
     → modulo (bitXor r s * 2 + bitXor a b % 2) ≡ bitXor (modulo (r * 2 + a % 2)) (modulo (s * 2 + b % 2))
@@ -133,7 +131,7 @@ pub crc-byte : (xs : List ℕ) → crc xs < 256
 crc-byte xs =
     rw (crc-residue xs) (mirrored-byte (remainder (residue xs) (bits 8 0)) (remainder-byte 8 (residue xs) 0 (residue-byte xs)))
 
--- of no bytes: 0
+-- of no bytes: 0 (5.2 f)
 pub crc-none : crc [] ≡ 0
 unfolding crc message remainder mirrored modulo bits
 crc-none = refl
@@ -156,25 +154,39 @@ unfolding crcFrom
 crc-from-append c [] ys = refl
 crc-from-append c (x ∷ xs) ys = crc-from-append (crc (bitXor c x ∷ [])) xs ys
 
--- bytes followed by their own CRC give 0 (5.2 e)
 crc-zero : crc (0 ∷ []) ≡ 0
 unfolding crc message remainder mirrored modulo bits
 crc-zero = refl
 
+-- bytes followed by their own CRC give 0 (5.2 e)
 pub crc-checked : (xs : List ℕ) → crc (xs ++ (crc xs ∷ [])) ≡ 0
 crc-checked xs = crc-snoc xs (crc xs) ∙ ap (λ (k : ℕ). crc (k ∷ [])) (xor-self (crc xs)) ∙ crc-zero
 
--- and only their own CRC does: to compare (5.2 d) and to run it through (5.2 e) are one test
 crc-of-one : (k : ℕ) → k < 256 → crc (k ∷ []) ≡ 0 → k ≡ 0
 unfolding crc message remainder mirrored modulo bits
 crc-of-one k h e =
     omega (arith, same (λ n. 1 - n) (λ n. 1 - crc (n ∷ [])) 256 refl k h, e)
 
+-- and only their own CRC does
 pub crc-only : (xs : List ℕ) (k : ℕ) → k < 256 → crc (xs ++ (k ∷ [])) ≡ 0 → k ≡ crc xs
 crc-only xs k h e =
     let c = crc xs in
     let z : bitXor c k ≡ 0 = crc-of-one (bitXor c k) (xor-lt 8 c k (crc-byte xs) h) (sym (crc-snoc xs k) ∙ e) in
     ap (λ (n : ℕ). bitXor n k) (sym (xor-self c)) ∙ xor-assoc c c k ∙ ap (bitXor c) z ∙ xor-zero-r c
+
+-- so to compare (5.2 d) and to run the CRC through (5.2 e) are one test
+pub crc-test : (xs : List ℕ) (k : ℕ) → k < 256 → eqb (crc (xs ++ (k ∷ []))) 0 ≡ eqb k (crc xs)
+crc-test xs k h = go (ℕ-discrete k (crc xs))
+  where
+    go : Dec (k ≡ crc xs) → eqb (crc (xs ++ (k ∷ []))) 0 ≡ eqb k (crc xs)
+    go (yes e) = eq-eqb _ 0 (ap (λ (n : ℕ). crc (xs ++ (n ∷ []))) e ∙ crc-checked xs) ∙ sym (eq-eqb k (crc xs) e)
+    go (no d) = ne-eqb _ 0 (λ z. d (crc-only xs k h z)) ∙ sym (ne-eqb k (crc xs) d)
+
+-- what goes on from a byte is a byte
+pub crc-from-byte : (c : ℕ) (xs : List ℕ) → c < 256 → crcFrom c xs < 256
+unfolding crcFrom
+crc-from-byte c [] h = h
+crc-from-byte c (x ∷ xs) h = crc-from-byte (crc (bitXor c x ∷ [])) xs (crc-byte (bitXor c x ∷ []))
 
 -- document 01: of 01 it is 91, of 80 it is E0
 pub crc-01 : crc (0x01 ∷ []) ≡ 0x91

@@ -1,31 +1,33 @@
 -- Laws of numbers in digits, over the base and over how many there are.
-use mathlib.Core.Path.{_≡_, refl, sym, ap, ap₂, _∙_, subst}
+use mathlib.Core.Path.{_≡_, refl, sym, ap, ap₂, _∙_}
 use mathlib.Core.List.{List, [], _∷_, _++_, append-nil}
-use mathlib.Core.Bool.{true, false, cond, and-true}
+use mathlib.Core.Bool.{true, false, cond, _&&_, and-true}
+use mathlib.Core.Logic.{_⊎_, inl, inr, ⊎-elim}
 use Prim.Native.Nat.{ℕ, zero, suc, _+_, _-_, _*_, _/_, _%_, _^_, _<_, _≤_}
 use native.Mathlib.Omega.{arith}
 use native.Mathlib.Nat.{le-of-eq, lt-of-not-le, one-mul, div-eq-of-lt, div-lt-iff-lt-mul, mul-pos, mul-assoc, add-comm, add-mul-div-right, mul-add-mod-self-right, zero-mul, zero-add, mod-one, pow-zero, pow-succ', mod-eq-of-lt, mod-lt, suc-add}
-use lib.Arith.{mod-mul, digits-lt, digits-div, digits-mod}
+use lib.Arith.{mod-mul, digits-lt, digits-div}
 use lib.Dec.{leb, ltb, eqb}
-use lib.ListN.{length, take, drop, replicate, length-replicate, drop-of-length-le}
+use lib.ListN.{length, getD, take, drop, replicate, length-replicate, drop-of-length-le}
 use lib.Seq.{take-all}
 use native.Mathlib.Decide.{decLt}
 use borrow.Author.Tests.{leb-true, le-leb, lt-ltb, le-ltb, eq-eqb, ne-eqb}
 use Rattle.octets.specs.Places.{within, part, placed, copyFits, copied}
 use Rattle.octets.specs.declared.numbers.Number.the-variants.{Value, Refused}
 use Rattle.octets.proofs.Tabulate.{same}
-use Rattle.octets.proofs.PlaceLaws.{length-part, length-placed, part-placed}
+use Rattle.octets.proofs.PlaceLaws.{length-part, length-placed, part-placed, second-true, placed-if-length, placed-if-outside}
 use Rattle.octets.specs.Numbers.{worth, digits, number, bytesOf, Digits, readNumber, numberFits, written}
 
--- the address of the commands of 001, Annex A.4 that go by path: A0 00 00 10
-number-example : number (0xA0 ∷ 0x00 ∷ 0x00 ∷ 0x10 ∷ []) ≡ 0xA0000010
-number-example = refl
+-- most significant first: the address A0000010 of 001, Annex A.4 is sent as A0 00 00 10. The laws below hold for the other order
+-- too; these two pin it
+pub address-number : number (0xA0 ∷ 0x00 ∷ 0x00 ∷ 0x10 ∷ []) ≡ 0xA0000010
+address-number = refl
 
-bytes-example : bytesOf 4 0xA0000010 ≡ 0xA0 ∷ 0x00 ∷ 0x00 ∷ 0x10 ∷ []
-bytes-example = refl
+pub address-bytes : bytesOf 4 0xA0000010 ≡ 0xA0 ∷ 0x00 ∷ 0x00 ∷ 0x10 ∷ []
+address-bytes = refl
 
 -- zeros in front are worth nothing
-pub worth-zeros : (base k : ℕ) (ds : List ℕ) → worth base (replicate k 0 ++ ds) ≡ worth base ds
+worth-zeros : (base k : ℕ) (ds : List ℕ) → worth base (replicate k 0 ++ ds) ≡ worth base ds
 worth-zeros base zero ds = refl
 worth-zeros base (suc k) ds = simp (zero-mul, zero-add) (worth-zeros base k ds)
 
@@ -35,10 +37,25 @@ length-digits base zero n = refl
 length-digits base (suc width) n = ap suc (length-digits base width n)
 
 -- the last digits of more digits
-pub drop-digits : (base k width n : ℕ) → drop k (digits base (k + width) n) ≡ digits base width n
+drop-digits : (base k width n : ℕ) → drop k (digits base (k + width) n) ≡ digits base width n
 drop-digits base zero width n = ap (λ (w : ℕ). digits base w n) (zero-add width)
 drop-digits base (suc k) width n =
     ap (λ (w : ℕ). drop (suc k) (digits base w n)) (suc-add k width) ∙ drop-digits base k width n
+
+-- what holds of every place of a list; and a part of it
+pub digits-of : (base : ℕ) (ds : List ℕ) → ((k : ℕ) → getD ds k 0 < base) → Digits base ds
+digits-of base [] h = tt
+digits-of base (d ∷ ds) h = (h 0, digits-of base ds (λ k. h (suc k)))
+
+digits-take : (base n : ℕ) (ds : List ℕ) → Digits base ds → Digits base (take n ds)
+digits-take base zero ds t = tt
+digits-take base (suc n) [] t = tt
+digits-take base (suc n) (d ∷ ds) t = (t .0, digits-take base n ds (t .1))
+
+digits-drop : (base n : ℕ) (ds : List ℕ) → Digits base ds → Digits base (drop n ds)
+digits-drop base zero ds t = t
+digits-drop base (suc n) [] t = tt
+digits-drop base (suc n) (d ∷ ds) t = digits-drop base n ds (t .1)
 
 module _ (base : ℕ) (some : zero < base) where
   pow-some : (k : ℕ) → zero < base ^ k
@@ -85,10 +102,16 @@ module _ (base : ℕ) (some : zero < base) where
       (ap (λ (m : ℕ). m % base) (digits-div d (worth-below ds (t .1))) ∙ mod-eq-of-lt (t .0))
       (digits-above (length ds) d (worth base ds) ∙ digits-worth ds (t .1))
 
--- ---- in eight bytes: what a u64 has room for
+-- a number of some bytes, read out of bytes, is below 256 to the power of how many they are
+pub number-below : (s : List ℕ) (at width : ℕ) → Digits 256 s → at + width ≤ length s → number (part at width s) < 256 ^ width
+number-below s at width t h =
+    rw (length-part at width s h) at
+    (worth-below 256 (omega arith) (part at width s) (digits-take 256 width (drop at s) (digits-drop 256 at s t)))
+
+-- ---- parts, padding and width: what reading and writing through eight bytes asks
 
 -- the lowest digits of more digits
-pub part-digits : (base k width n : ℕ) → width ≤ k → part (k - width) width (digits base k n) ≡ digits base width n
+part-digits : (base k width n : ℕ) → width ≤ k → part (k - width) width (digits base k n) ≡ digits base width n
 part-digits base k width n h =
     let e : k ≡ k - width + width = omega arith in
     ap (λ (m : ℕ). take width (drop (k - width) (digits base m n))) e
@@ -101,7 +124,7 @@ take-zeros (suc k) zero h = absurd (omega arith)
 take-zeros (suc k) (suc n) h = ap (λ (l : List ℕ). zero ∷ l) (take-zeros k n (omega arith))
 
 -- at the end of k zeros, bytes are worth what they are worth
-pub worth-padded : (base k : ℕ) (p : List ℕ) → length p ≤ k → worth base (placed (k - length p) p (replicate k zero)) ≡ worth base p
+worth-padded : (base k : ℕ) (p : List ℕ) → length p ≤ k → worth base (placed (k - length p) p (replicate k zero)) ≡ worth base p
 worth-padded base k p h =
     let gone : drop (k - length p + length p) (replicate k zero) ≡ [] =
     drop-of-length-le (replicate k zero) {i = k - length p + length p} (omega (arith, length-replicate k zero)) in
@@ -160,3 +183,21 @@ module _ (d : List ℕ) (at width n : ℕ) (small : width ≤ 8) (fits : ltb n (
   write-copied =
       rw (le-leb width 8 small, fits, le-leb (8 - width + width) 8 (omega arith))
       (ap (λ (p : List ℕ). cond (within at width d) (placed at p d) d) (part-digits 256 8 width n small))
+
+-- ---- a write keeps the length, and every byte outside its places
+
+module _ (d : List ℕ) (at width n : ℕ) where
+  write-room : numberFits d at width n ≡ true → at + length (bytesOf width n) ≤ length d
+  write-room e =
+      let r = leb-true (at + width) (length d) (second-true (leb width 8 && ltb n (256 ^ width)) (within at width d) e) in
+      omega (arith, length-digits 256 width n)
+
+  pub length-written : length (written d at width n) ≡ length d
+  unfolding written
+  length-written = placed-if-length at (bytesOf width n) d (numberFits d at width n) write-room
+
+  pub written-outside : (i : ℕ) → (i < at) ⊎ (at + width ≤ i) → getD (written d at width n) i 0 ≡ getD d i 0
+  unfolding written
+  written-outside i o =
+      placed-if-outside at (bytesOf width n) d (numberFits d at width n) write-room i
+      (⊎-elim (λ (l : i < at). inl l) (λ (g : at + width ≤ i). inr (omega (arith, length-digits 256 width n))) o)

@@ -2,15 +2,17 @@
 use mathlib.Core.Path.{_≡_, refl, sym, ap, _∙_}
 use mathlib.Core.Bool.{Bool, true, false, cond, _&&_, false≢true}
 use mathlib.Core.Logic.{_⊎_, inl, inr, ⊎-elim}
-use mathlib.Core.List.{List, [], _∷_, _++_, append-assoc}
-use Prim.Native.Nat.{ℕ, zero, suc, _+_, _-_, _<_, _≤_}
+use mathlib.Core.List.{List, _++_, append-assoc}
+use Prim.Native.Nat.{ℕ, _+_, _-_, _<_, _≤_}
 use native.Mathlib.Omega.{arith}
 use native.Mathlib.Decide.{decLe}
-use native.Mathlib.Nat.{lt-of-not-le}
+use native.Mathlib.Nat.{lt-of-not-le, add-assoc}
 use borrow.Author.Tests.{leb-true, le-leb, lt-leb}
 use lib.Dec.{leb}
 use lib.ListN.{length, getD, take, drop, replicate, length-replicate, length-append, length-take, length-drop, List·getD-append}
-use lib.Seq.{paste, length-take-le, take-length, take-at, drop-at, drop-drop, getD-take, getD-drop, getD-append-add}
+use lib.Seq.{ext-getD, paste, length-take-le, take-length, take-at, drop-at, drop-drop, getD-take, getD-drop, getD-append-add}
+use Rattle.octets.proofs.Tabulate.{tabulate, length-tabulate}
+use Rattle.octets.proofs.Tabulate.{at as at-place}
 use Rattle.octets.specs.Places.{within, part, placed, copyFits, copied, filled}
 
 -- ---- places that are there
@@ -29,6 +31,15 @@ length-part from count s h = length-take-le count (drop from s) (simp length-dro
 
 pub part-at : (from count : ℕ) (s : List ℕ) (i : ℕ) → i < count → getD (part from count s) i 0 ≡ getD s (from + i) 0
 part-at from count s i h = getD-take count (drop from s) i 0 h ∙ getD-drop from s i 0
+
+-- a part of a length that is written out, byte by byte: as a reader of fixed places has it
+pub part-bytes : (from count : ℕ) (s : List ℕ) → from + count ≤ length s
+    → part from count s ≡ tabulate 0 count (λ k. getD s (from + k) 0)
+part-bytes from count s h =
+    let l = length-part from count s h in
+    ext-getD 0 (part from count s) (tabulate 0 count (λ k. getD s (from + k) 0))
+    (l ∙ sym (length-tabulate (λ k. getD s (from + k) 0) 0 count))
+    (λ i g. part-at from count s i (omega arith) ∙ sym (at-place (λ k. getD s (from + k) 0) count i (omega arith)))
 
 -- ---- bytes put at a place
 
@@ -74,19 +85,57 @@ module _ (at : ℕ) (p d : List ℕ) (fits : at + length p ≤ length d) where
       ∙ getD-drop (at + length p) d (i - (at + length p)) 0
       ∙ ap (λ (k : ℕ). getD d k 0) (omega arith)
 
+  -- a part beside it
+  pub part-beside : (from count : ℕ) → (from + count ≤ at) ⊎ (at + length p ≤ from) → part from count (placed at p d) ≡ part from count d
+  part-beside from count o =
+      ext-getD 0 (part from count (placed at p d)) (part from count d)
+      (rw (
+        length-take count (drop from (placed at p d)),
+        length-take count (drop from d),
+        length-drop from (placed at p d),
+        length-drop from d,
+        length-placed,
+      ))
+      (λ i h.
+      let m = length-take count (drop from (placed at p d)) in
+      let g : i < count = omega arith in
+      part-at from count (placed at p d) i g
+      ∙ ⊎-elim (λ (b : from + count ≤ at). placed-before (from + i) (omega arith)) (λ (a : at + length p ≤ from). placed-after (from + i) (omega arith)) o
+      ∙ sym (part-at from count d i g))
+
+-- bytes put behind bytes are one row of bytes
+pub placed-on : (at : ℕ) (p q d : List ℕ) → at + length p + length q ≤ length d
+    → placed (at + length p) q (placed at p d) ≡ placed at (p ++ q) d
+placed-on at p q d h =
+    let n = at + length p in
+    let front : length (take at d ++ p) ≡ n = head at p d (omega arith) in
+    rw (
+      take-at (take at d ++ p) (drop n d) n front,
+      ← drop-drop (length q) n (take at d ++ p ++ drop n d),
+      drop-at (take at d ++ p) (drop n d) n front,
+      drop-drop (length q) n d,
+      length-append p q,
+      ← add-assoc at (length p) (length q),
+      append-assoc (take at d) p q,
+    )
+
 -- ---- copies and fills, whether they fit or not
 
-both-true : (a b : Bool) → (a && b) ≡ true → b ≡ true
-both-true true b e = e
-both-true false b e = absurd (false≢true e)
+first-true : (a b : Bool) → (a && b) ≡ true → a ≡ true
+first-true true b e = refl
+first-true false b e = e
+
+pub second-true : (a b : Bool) → (a && b) ≡ true → b ≡ true
+second-true true b e = e
+second-true false b e = absurd (false≢true e)
 
 -- d with p placed where a test lets it, and as it was where not: it keeps its length, and every byte outside p's places
 module _ (at : ℕ) (p d : List ℕ) where
-  placed-if-length : (t : Bool) → (t ≡ true → at + length p ≤ length d) → length (cond t (placed at p d) d) ≡ length d
+  pub placed-if-length : (t : Bool) → (t ≡ true → at + length p ≤ length d) → length (cond t (placed at p d) d) ≡ length d
   placed-if-length true h = length-placed at p d (h refl)
   placed-if-length false h = refl
 
-  placed-if-outside : (t : Bool) → (t ≡ true → at + length p ≤ length d) → (i : ℕ) → (i < at) ⊎ (at + length p ≤ i)
+  pub placed-if-outside : (t : Bool) → (t ≡ true → at + length p ≤ length d) → (i : ℕ) → (i < at) ⊎ (at + length p ≤ i)
       → getD (cond t (placed at p d) d) i 0 ≡ getD d i 0
   placed-if-outside true h i o = ⊎-elim (placed-before at p d (h refl) i) (placed-after at p d (h refl) i) o
   placed-if-outside false h i o = refl
@@ -94,12 +143,20 @@ module _ (at : ℕ) (p d : List ℕ) where
 module _ (s : List ℕ) (from count : ℕ) (d : List ℕ) (at : ℕ) where
   copy-room : copyFits s from count d at ≡ true → at + length (part from count s) ≤ length d
   copy-room e =
-      let r = leb-true (at + count) (length d) (both-true (within from count s) (within at count d) e) in
+      let r = leb-true (at + count) (length d) (second-true (within from count s) (within at count d) e) in
       simp length-take (omega arith)
 
   pub length-copied : length (copied s from count d at) ≡ length d
   unfolding copied
   length-copied = placed-if-length at (part from count s) d (copyFits s from count d at) copy-room
+
+  pub part-copied : copyFits s from count d at ≡ true → part at count (copied s from count d at) ≡ part from count s
+  unfolding copied
+  part-copied e =
+      let r = copy-room e in
+      let l : length (part from count s) ≡ count =
+      length-part from count s (leb-true (from + count) (length s) (first-true (within from count s) (within at count d) e)) in
+      rw e (ap (λ (k : ℕ). part at k (placed at (part from count s) d)) (sym l) ∙ part-placed at (part from count s) d r)
 
   pub copied-outside : (i : ℕ) → (i < at) ⊎ (at + count ≤ i) → getD (copied s from count d at) i 0 ≡ getD d i 0
   unfolding copied
@@ -114,6 +171,12 @@ module _ (d : List ℕ) (at count b : ℕ) where
   pub length-filled : length (filled d at count b) ≡ length d
   unfolding filled
   length-filled = placed-if-length at (replicate count b) d (within at count d) fill-room
+
+  pub part-filled : within at count d ≡ true → part at count (filled d at count b) ≡ replicate count b
+  unfolding filled
+  part-filled e =
+      rw e (ap (λ (k : ℕ). part at k (placed at (replicate count b) d)) (sym (length-replicate count b))
+      ∙ part-placed at (replicate count b) d (fill-room e))
 
   pub filled-outside : (i : ℕ) → (i < at) ⊎ (at + count ≤ i) → getD (filled d at count b) i 0 ≡ getD d i 0
   unfolding filled

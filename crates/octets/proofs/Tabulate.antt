@@ -6,7 +6,7 @@ use native.Mathlib.Nat.{add-zero, zero-add, add-suc, suc-add, le-of-suc-le-suc, 
 use lib.ListN.{length, getD}
 use lib.Seq.{ext-getD}
 
--- f at i, and at the n - 1 numbers after it
+-- f at the n numbers from i on
 abbrev pub tabulate : ℕ → ℕ → (ℕ → ℕ) → List ℕ
 tabulate i zero f = []
 tabulate i (suc n) f = f i ∷ tabulate (suc i) n f
@@ -22,7 +22,7 @@ at f n k h = from f 0 n k h ∙ ap f (zero-add k)
 pub same : (f g : ℕ → ℕ) (n : ℕ) → tabulate 0 n f ≡ tabulate 0 n g → (k : ℕ) → k < n → f k ≡ g k
 same f g n e k h = sym (at f n k h) ∙ ap (λ (l : List ℕ). getD l k 0) e ∙ at g n k h
 
-length-tabulate : (f : ℕ → ℕ) (i n : ℕ) → length (tabulate i n f) ≡ n
+pub length-tabulate : (f : ℕ → ℕ) (i n : ℕ) → length (tabulate i n f) ≡ n
 length-tabulate f i zero = refl
 length-tabulate f i (suc n) = ap suc (length-tabulate f (suc i) n)
 

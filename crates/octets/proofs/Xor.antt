@@ -1,11 +1,11 @@
 -- Exclusive or is associative, and two sums of two can be added crosswise. From bit to bit: numbers are equal where
 -- their halves and their last bits are.
-use mathlib.Core.Path.{_≡_, refl, sym, ap, ap₂, _∙_}
-use Prim.Native.Nat.{ℕ, zero, suc, _*_, _/_, _%_, _<_}
+use mathlib.Core.Path.{_≡_, refl}
+use Prim.Native.Nat.{ℕ, zero, suc, _/_, _%_, _<_}
 use native.Mathlib.Nat.{mod-lt, zero-lt-suc}
 use native.Mathlib.Omega.{arith}
 use lib.Arith.{bin-ind}
-use lib.Bits.{bitXor, xor-comm, xor-shr, xor-mod, xor-zero-r}
+use lib.Bits.{bitXor, xor-comm, xor-shr, xor-mod}
 
 halves : {a b : ℕ} → a / 2 ≡ b / 2 → a % 2 ≡ b % 2 → a ≡ b
 halves p q = omega arith
@@ -19,7 +19,7 @@ bit-assoc (suc zero) (suc zero) (suc (suc z)) hx hy hz = absurd (omega arith)
 bit-assoc (suc zero) (suc (suc y)) z hx hy hz = absurd (omega arith)
 bit-assoc (suc (suc x)) y z hx hy hz = absurd (omega arith)
 
-low : (n : ℕ) → n % 2 < 2
+pub low : (n : ℕ) → n % 2 < 2
 low n = mod-lt n (zero-lt-suc 1)
 
 pub xor-assoc : (a b c : ℕ) → bitXor (bitXor a b) c ≡ bitXor a (bitXor b c)

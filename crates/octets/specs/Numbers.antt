@@ -1,7 +1,7 @@
--- Numbers in bytes, most significant byte first (document 01, 'Reading a packet'; 001, 5.1.10 b and 5.1.11 b).
+-- Numbers in bytes, most significant byte first (document 01, 'Reading a packet' and 'Time'; 001, 5.1.8 c, 5.1.10 b, 5.1.11 b).
 use mathlib.Core.List.{List, [], _∷_}
-use Prim.Native.Nat.{ℕ, zero, suc, _+_, _*_, _/_, _%_, _^_, _<_}
 use mathlib.Core.Bool.{Bool, cond, _&&_}
+use Prim.Native.Nat.{ℕ, zero, suc, _+_, _*_, _/_, _%_, _^_, _<_}
 use lib.Dec.{leb, ltb}
 use lib.ListN.{length}
 use Rattle.octets.specs.Places.{within, part, placed}
@@ -18,26 +18,27 @@ abbrev pub digits : ℕ → ℕ → ℕ → List ℕ
 digits base zero n = []
 digits base (suc width) n = n / base ^ width % base ∷ digits base width n
 
--- The number that bytes are worth, and the bytes of a number.
-abbrev pub number : List ℕ → ℕ
-number bytes = worth 256 bytes
-
-abbrev pub bytesOf : ℕ → ℕ → List ℕ
-bytesOf width n = digits 256 width n
-
 -- Digits of a base: each is below it. Bytes are digits of base 256.
 abbrev pub Digits : ℕ → List ℕ → Type 0
 Digits base [] = Unit
 Digits base (d ∷ ds) = (d < base) × Digits base ds
 
+-- The number that bytes are worth.
+abbrev pub number : List ℕ → ℕ
+number bytes = worth 256 bytes
+
+-- The lowest `width` bytes of a number.
+abbrev pub bytesOf : ℕ → ℕ → List ℕ
+bytesOf width n = digits 256 width n
+
 -- What stands at `at` as a number of `width` bytes: refused where not all of them are there, or where they are over eight.
 unfoldable pub readNumber : List ℕ → ℕ → ℕ → Number
 readNumber s at width = cond (leb width 8 && within at width s) (Value (number (part at width s))) Refused
 
--- n can be written there: in at most eight bytes, it has no more than those, and their places are there; and what d then
--- holds, all of the number or nothing of it.
+-- n can be written at `at` in `width` bytes: they are at most eight, n is below 256^width, and the places are there.
 abbrev pub numberFits : List ℕ → ℕ → ℕ → ℕ → Bool
 numberFits d at width n = leb width 8 && ltb n (256 ^ width) && within at width d
 
+-- What d holds after that: all of the number, or what it held.
 unfoldable pub written : List ℕ → ℕ → ℕ → ℕ → List ℕ
 written d at width n = cond (numberFits d at width n) (placed at (bytesOf width n) d) d

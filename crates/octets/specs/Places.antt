@@ -1,5 +1,5 @@
 -- Parts of a list of bytes, and what a list holds after bytes were put at a place of it.
-use mathlib.Core.List.{List, [], _∷_, _++_}
+use mathlib.Core.List.{List, _++_}
 use mathlib.Core.Bool.{Bool, cond, _&&_}
 use Prim.Native.Nat.{ℕ, _+_}
 use lib.Dec.{leb}
@@ -17,13 +17,14 @@ part from count s = take count (drop from s)
 abbrev pub placed : ℕ → List ℕ → List ℕ → List ℕ
 placed at p d = take at d ++ p ++ drop (at + length p) d
 
--- A part of s, and the places it is to go to in d, are there; what d holds after the copy, all of it or nothing.
+-- The part of s, and the places of d that it is to go to, are all there.
 abbrev pub copyFits : List ℕ → ℕ → ℕ → List ℕ → ℕ → Bool
 copyFits s from count d at = within from count s && within at count d
 
+-- What d holds after the copy: all of the part, or what it held.
 unfoldable pub copied : List ℕ → ℕ → ℕ → List ℕ → ℕ → List ℕ
 copied s from count d at = cond (copyFits s from count d at) (placed at (part from count s) d) d
 
--- What d holds after `count` places from `at` on were filled with the byte b, all of them or none.
+-- What d holds after `count` places from `at` on were filled with the byte b: all of them, or what it held.
 unfoldable pub filled : List ℕ → ℕ → ℕ → ℕ → List ℕ
 filled d at count b = cond (within at count d) (placed at (replicate count b) d) d

@@ -5,10 +5,10 @@ ghost use lib.ListN.{length, replicate};
 ghost use Rattle.octets.specs.Places.{part, placed, copyFits, copied, filled};
 ghost use Rattle.octets.specs.Places.{within as Places·within};
 
-// Copies `count` bytes of src, from `from` on, into dst, from `at` on. True where it did.
+// Copies `count` bytes of src, from `from` on, into dst, from `at` on. True if it did.
 pub fn copy_part(src: &[u8], from: usize, count: usize, dst: &mut [u8], at: usize) -> bool
-    ensures told { λ r. ⌜ r ≡ copyFits (now (src .entry)) from count (now (dst .entry)) at ⌝ }
-    ensures left { λ _. ⌜ now (dst .exit) ≡ copied (now (src .entry)) from count (now (dst .entry)) at ⌝ }
+    ensures answers { λ r. ⌜ r ≡ copyFits (now (src .entry)) from count (now (dst .entry)) at ⌝ }
+    ensures leaves { λ _. ⌜ now (dst .exit) ≡ copied (now (src .entry)) from count (now (dst .entry)) at ⌝ }
 {
     if !within(src, from, count) {
         return false;
@@ -20,10 +20,10 @@ pub fn copy_part(src: &[u8], from: usize, count: usize, dst: &mut [u8], at: usiz
     true
 }
 
-// Fills `count` places of dst, from `at` on, with one byte. True where it did.
+// Fills `count` places of dst, from `at` on, with one byte. True if it did.
 pub fn fill(dst: &mut [u8], at: usize, count: usize, byte: u8) -> bool
-    ensures told { λ r. ⌜ r ≡ Places·within at count (now (dst .entry)) ⌝ }
-    ensures left { λ _. ⌜ now (dst .exit) ≡ filled (now (dst .entry)) at count byte ⌝ }
+    ensures answers { λ r. ⌜ r ≡ Places·within at count (now (dst .entry)) ⌝ }
+    ensures leaves { λ _. ⌜ now (dst .exit) ≡ filled (now (dst .entry)) at count byte ⌝ }
 {
     if !within(dst, at, count) {
         return false;
@@ -33,7 +33,7 @@ pub fn fill(dst: &mut [u8], at: usize, count: usize, byte: u8) -> bool
 }
 
 // Whether the `count` places from `at` on are all there. No sum here can wrap.
-pub(crate) fn within(s: &[u8], at: usize, count: usize) -> bool
+fn within(s: &[u8], at: usize, count: usize) -> bool
     ensures { λ r. ⌜ r ≡ Places·within at count (now (s .entry)) ⌝ }
 {
     if s.len() < at {
@@ -42,7 +42,7 @@ pub(crate) fn within(s: &[u8], at: usize, count: usize) -> bool
     count <= s.len() - at
 }
 
-// The loop of copy_part.
+// The loop of copy_part, over places that are there.
 fn copy(src: &[u8], from: usize, count: usize, dst: &mut [u8], at: usize)
     requires { ⌜ (from + count ≤ length (now src)) × (at + count ≤ length (now dst)) ⌝ }
     ensures { λ _. ⌜ now (dst .exit) ≡ placed at (part from count (now (src .entry))) (now (dst .entry)) ⌝ }
@@ -54,7 +54,7 @@ fn copy(src: &[u8], from: usize, count: usize, dst: &mut [u8], at: usize)
     }
 }
 
-// The loop of fill.
+// The loop of fill, over places that are there.
 fn repeat(dst: &mut [u8], at: usize, count: usize, byte: u8)
     requires { ⌜ at + count ≤ length (now dst) ⌝ }
     ensures { λ _. ⌜ now (dst .exit) ≡ placed at (replicate count byte) (now (dst .entry)) ⌝ }

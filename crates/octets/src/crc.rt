@@ -5,14 +5,14 @@ ghost use Prim.Native.Nat.{_*_, _/_, _%_};
 ghost use lib.Bits.{bitXor};
 ghost use Rattle.octets.specs.Crc.{crc, crcFrom};
 
-// The CRC of the bytes. Of no bytes it is 0, and of bytes that are followed by their own CRC too.
+// The CRC of the bytes. It is 0 for no bytes, and for bytes followed by their own CRC.
 pub fn crc_of(bytes: &[u8]) -> u8
     ensures { λ r. ⌜ r ≡ crc (now (bytes .entry)) ⌝ }
 {
     crc_from(0, bytes)
 }
 
-// The CRC goes on: of all that `running` is the CRC of, followed by the bytes.
+// Goes on: where `running` is the CRC of what came before, the CRC of that and the bytes together.
 pub fn crc_from(running: u8, bytes: &[u8]) -> u8
     ensures { λ r. ⌜ r ≡ crcFrom running (now (bytes .entry)) ⌝ }
 {
@@ -25,7 +25,7 @@ pub fn crc_from(running: u8, bytes: &[u8]) -> u8
     c
 }
 
-// The CRC goes on by one byte: it is added, and its eight bits are turned out.
+// Goes on by one byte: it is xored in, and eight turns shift its bits out.
 fn crc_byte(running: u8, byte: u8) -> u8
     ensures { λ r. ⌜ r ≡ crc (bitXor running byte ∷ []) ⌝ }
 {
@@ -36,7 +36,7 @@ fn crc_byte(running: u8, byte: u8) -> u8
     c
 }
 
-// A turn of the shift register: where a 1 leaves it, x^2 + x + 1 comes in, in the three upper bits.
+// A turn of the shift register: where a 1 leaves it, x^2 + x + 1 comes in, mirrored: in the three upper bits.
 fn turn(c: u8) -> u8
     ensures { λ r. ⌜ r ≡ bitXor (c / 2) (c % 2 * 0b11100000) ⌝ }
 {

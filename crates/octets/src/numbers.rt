@@ -1,4 +1,4 @@
-// Numbers in bytes, most significant byte first (document 01, 'Reading a packet').
+// Numbers in bytes, most significant byte first (document 01, 'Reading a packet' and 'Time').
 ghost use mathlib.Core.Path.{_≡_};
 ghost use mathlib.Core.List.{[], _∷_};
 ghost use Prim.Native.Nat.{_^_, _≤_};
@@ -6,13 +6,13 @@ ghost use lib.Dec.{ltb};
 ghost use Rattle.octets.specs.Numbers.{number, bytesOf, readNumber, numberFits, written};
 use crate::copies::copy_part;
 
-// What stands at a place: a number, or a refusal where not all of its bytes are there, or where they are over eight.
+// What stands at a place: a number, or nothing that could be answered.
 pub enum Number {
     Value(u64),
     Refused,
 }
 
-// Reads the number of `width` bytes at `at`.
+// Reads the number of `width` bytes at `at`. Refused if not all of them are there, or if they are over eight.
 pub fn read_number(s: &[u8], at: usize, width: usize) -> Number
     ensures { λ r. ⌜ r ≡ readNumber (now (s .entry)) at width ⌝ }
 {
@@ -26,26 +26,27 @@ pub fn read_number(s: &[u8], at: usize, width: usize) -> Number
     Number::Value(number8(bytes))
 }
 
-// Writes n as `width` bytes at `at`, all or nothing. True where it did: the places are there, and n has no more bytes.
+// Writes n as `width` bytes at `at`, all or nothing. True if it did: they are at most eight, n is below 256^width, and the
+// places are there.
 pub fn write_number(dst: &mut [u8], at: usize, width: usize, n: u64) -> bool
-    ensures told { λ r. ⌜ r ≡ numberFits (now (dst .entry)) at width n ⌝ }
-    ensures left { λ _. ⌜ now (dst .exit) ≡ written (now (dst .entry)) at width n ⌝ }
+    ensures answers { λ r. ⌜ r ≡ numberFits (now (dst .entry)) at width n ⌝ }
+    ensures leaves { λ _. ⌜ now (dst .exit) ≡ written (now (dst .entry)) at width n ⌝ }
 {
     if 8 < width {
         return false;
     }
-    if !has_room(n, width) {
+    if !fits_width(n, width) {
         return false;
     }
     let bytes = bytes8(n);
     copy_part(&bytes, 8 - width, width, dst, at)
 }
 
-// The number that two, three, four or seven bytes are worth.
+// The number that bytes are worth: two, three, four or seven of them, which are already at hand.
 pub fn number2(a: u8, b: u8) -> u16
     ensures { λ r. ⌜ r ≡ number (a ∷ b ∷ []) ⌝ }
 {
-    a as u16 * 256 + b as u16
+    a as u16 * 0x100 + b as u16
 }
 
 pub fn number3(a: u8, b: u8, c: u8) -> u32
@@ -57,7 +58,7 @@ pub fn number3(a: u8, b: u8, c: u8) -> u32
 pub fn number4(a: u8, b: u8, c: u8, d: u8) -> u32
     ensures { λ r. ⌜ r ≡ number (a ∷ b ∷ c ∷ d ∷ []) ⌝ }
 {
-    a as u32 * 16777216 + b as u32 * 65536 + c as u32 * 256 + d as u32
+    a as u32 * 0x100_0000 + b as u32 * 0x1_0000 + c as u32 * 0x100 + d as u32
 }
 
 pub fn number7(a: u8, b: u8, c: u8, d: u8, e: u8, f: u8, g: u8) -> u64
@@ -70,10 +71,10 @@ fn number8(b: [u8; 8]) -> u64
     ensures { λ r. ⌜ r ≡ number b ⌝ }
 {
     let high = number4(b[0], b[1], b[2], b[3]) as u64;
-    high * 4294967296 + number4(b[4], b[5], b[6], b[7]) as u64
+    high * 0x1_0000_0000 + number4(b[4], b[5], b[6], b[7]) as u64
 }
 
-// The two, three, four or seven lowest bytes of a number.
+// The lowest bytes of a number: two, three, four or seven of them, each by its shift. What is above them is dropped.
 pub fn bytes2(n: u16) -> [u8; 2]
     ensures { λ r. ⌜ r ≡ bytesOf 2 n ⌝ }
 {
@@ -130,8 +131,8 @@ fn bytes8(n: u64) -> [u8; 8]
     ]
 }
 
-// Whether n has no more than `width` bytes.
-fn has_room(n: u64, width: usize) -> bool
+// Whether n is below 256^width.
+fn fits_width(n: u64, width: usize) -> bool
     requires { ⌜ width ≤ 8 ⌝ }
     ensures { λ r. ⌜ r ≡ ltb n (256 ^ width) ⌝ }
 {

@@ -1,6 +1,5 @@
 -- `octets::copies::copy_part` meets its contract: the definition asks the same two tests.
-use native.Mathlib.Omega.{arith}
-use mathlib.Core.Path.{_≡_, refl, sym, _∙_}
+use mathlib.Core.Path.{sym, _∙_}
 use borrow.Author.Needs.{needs}
 use borrow.Author.Tests.{leb-true, not-true, not-false}
 use Rattle.octets.specs.Places.{copied}

@@ -1,5 +1,5 @@
 -- `octets::copies::fill` meets its contract: the definition asks the same test.
-use mathlib.Core.Path.{_≡_, refl, sym, _∙_}
+use mathlib.Core.Path.{sym, _∙_}
 use borrow.Author.Needs.{needs}
 use borrow.Author.Tests.{leb-true, not-true, not-false}
 use Rattle.octets.specs.Places.{filled}

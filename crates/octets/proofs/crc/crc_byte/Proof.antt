@@ -1,6 +1,6 @@
 -- `octets::crc::crc_byte` meets its contract: at each test the turns still to come make of c the CRC of the byte.
 use native.Mathlib.Omega.{arith}
-use mathlib.Core.Path.{_≡_, refl, ap, sym, _∙_}
+use mathlib.Core.Path.{_≡_, _∙_}
 use mathlib.Core.List.{[], _∷_}
 use Prim.Native.Nat.{ℕ, suc, _+_, _-_, _<_, _≤_}
 use borrow.Author.Needs.{needs}

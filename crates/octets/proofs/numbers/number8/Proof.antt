@@ -1,17 +1,11 @@
+-- `octets::numbers::number8` meets its contract: an array of eight is its eight bytes, and the rest is a sum.
 use native.Mathlib.Omega.{arith}
-use mathlib.Core.Path.{_≡_, refl, ap, sym, _∙_}
-use Prim.Native.Nat.{ℕ, suc, zero, _+_, _-_, _*_, _<_, _≤_}
-use native.Mathlib.Numerals.{add-one}
-use lib.ListN.{length, getD, take, drop, set, length-set, length-take, length-drop, length-append}
-use mathlib.Core.List.{List, [], _∷_, _++_}
+use mathlib.Core.Path.{ap}
 use Rattle.octets.specs.Numbers.{number}
 use Rattle.octets.proofs.Tabulate.{tabulated}
 use borrow.Author.Needs.{needs}
 use Rattle.octets.proofs.numbers.number8.Statement.{statement}
 use Rattle.octets.proofs.numbers.number8.Tie as tie
-use Rattle.octets.proofs.numbers.number8.Reads as reads
-use Rattle.octets.proofs.numbers.number8.Lts as lts
-use Rattle.octets.proofs.numbers.number4.Reads as number4-reads
 
 array-read-number4 : tie.Need-array-read-number4
 array-read-number4 c = search needs

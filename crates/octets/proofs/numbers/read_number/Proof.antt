@@ -1,16 +1,11 @@
 -- `octets::numbers::read_number` meets its contract: the bytes are copied to the end of eight zeros, and those are worth
 -- what the bytes are worth.
 use native.Mathlib.Omega.{arith}
-use mathlib.Core.Path.{_≡_, refl, ap, sym, _∙_}
-use mathlib.Core.Bool.{_&&_, and-true}
-use Prim.Native.Nat.{_+_, _-_, _≤_}
+use mathlib.Core.Path.{sym, _∙_}
 use borrow.Author.Needs.{needs}
-use borrow.Author.Tests.{le-leb, lt-leb, leb-true, not-true, not-false}
+use borrow.Author.Tests.{lt-leb, not-true, not-false}
 use denote.Ref.{now}
-use lib.ListN.{length, replicate}
-use Rattle.octets.specs.Numbers.{number, readNumber}
-use Rattle.octets.specs.Places.{within, part, copyFits, copied}
-use Rattle.octets.proofs.PlaceLaws.{length-part}
+use Rattle.octets.specs.Numbers.{readNumber}
 use Rattle.octets.proofs.NumberLaws.{read-refused, read-copied}
 use Rattle.octets.proofs.numbers.read_number.Statement.{statement}
 use Rattle.octets.proofs.numbers.read_number.Tie as tie

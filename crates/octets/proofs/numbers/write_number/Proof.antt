@@ -1,7 +1,6 @@
 -- `octets::numbers::write_number` meets its contract: the lowest of the number's eight bytes are copied out.
 use native.Mathlib.Omega.{arith}
-use mathlib.Core.Path.{_≡_, refl, ap, sym, _∙_}
-use Prim.Native.Nat.{_≤_}
+use mathlib.Core.Path.{sym, _∙_}
 use borrow.Author.Needs.{needs}
 use borrow.Author.Tests.{le-leb, lt-leb, not-true, not-false}
 use denote.Ref.{now}
@@ -16,14 +15,14 @@ returns c =
     let e = lt-leb _ _ (c .if1 .taken) in
     (rw e, rw e)
 
-has-room-requires : tie.Need-has-room-requires
-has-room-requires c κs = search needs
+fits-width-requires : tie.Need-fits-width-requires
+fits-width-requires c κs = search needs
 
 returns-2 : tie.Need-returns-2
 unfolding written
 returns-2 c =
     let e = le-leb _ _ (c .before .before .if1 .left) in
-    let f = sym (c .before .has-room .ensures) ∙ not-true _ (c .if2 .taken) in
+    let f = sym (c .before .fits-width .ensures) ∙ not-true _ (c .if2 .taken) in
     (rw (e, f), rw (e, f))
 
 bytes8-requires : tie.Need-bytes8-requires
@@ -43,7 +42,7 @@ returns-3 c =
     let at = c .before .before .before .before .before .before in
     let a = at .before .before .before .before .args in
     let copy = c .before .before .copy-part .ensures in
-    let f = sym (at .before .has-room .ensures) ∙ not-false _ (at .if2 .left) in
+    let f = sym (at .before .fits-width .ensures) ∙ not-false _ (at .if2 .left) in
     let bytes = c .before .before .before .before .before .bytes8 .ensures in (
       rw bytes at (copy .0) ∙ write-fits (now (a .dst)) (a .at) (a .width) (a .n) (omega arith) f,
       rw bytes at (copy .1) ∙ write-copied (now (a .dst)) (a .at) (a .width) (a .n) (omega arith) f,
@@ -54,7 +53,7 @@ write-number-spec =
     tie.close
     (tie.spec
     returns
-    has-room-requires
+    fits-width-requires
     returns-2
     bytes8-requires
     slice-aggregate-copy-part
