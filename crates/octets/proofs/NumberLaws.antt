@@ -1,7 +1,7 @@
 -- Laws of numbers in digits, over the base and over how many there are.
 use mathlib.Core.Path.{_≡_, refl, sym, ap, ap₂, _∙_}
 use mathlib.Core.List.{List, [], _∷_, _++_, append-nil}
-use mathlib.Core.Bool.{true, false, cond, _&&_, and-true}
+use mathlib.Core.Bool.{Bool, true, false, cond, _&&_, and-true}
 use mathlib.Core.Logic.{_⊎_, inl, inr, ⊎-elim}
 use Prim.Native.Nat.{ℕ, zero, suc, _+_, _-_, _*_, _/_, _%_, _^_, _<_, _≤_}
 use native.Mathlib.Omega.{arith}
@@ -160,29 +160,37 @@ module _ (s : List ℕ) (at width : ℕ) (small : width ≤ 8) where
   copy-in-fits : copyFits s at width (replicate 8 zero) (8 - width) ≡ within at width s
   copy-in-fits = rw (le-leb (8 - width + width) 8 (omega arith)) (and-true (within at width s))
 
-  pub read-refused : copyFits s at width (replicate 8 zero) (8 - width) ≡ false → Refused ≡ readNumber s at width
+  -- `did` is what the copy answered
+  pub read-refused : {did : Bool} → did ≡ copyFits s at width (replicate 8 zero) (8 - width) → did ≡ false → Refused ≡ readNumber s at width
   unfolding readNumber
-  read-refused e = rw (le-leb width 8 small, sym copy-in-fits ∙ e)
+  read-refused p e = rw (le-leb width 8 small, sym copy-in-fits ∙ sym p ∙ e)
 
-  pub read-copied : copyFits s at width (replicate 8 zero) (8 - width) ≡ true
+  pub read-copied : {did : Bool} → did ≡ copyFits s at width (replicate 8 zero) (8 - width) → did ≡ true
       → Value (number (copied s at width (replicate 8 zero) (8 - width))) ≡ readNumber s at width
   unfolding readNumber copied
-  read-copied e =
-      let there : within at width s ≡ true = sym copy-in-fits ∙ e in
+  read-copied p e =
+      let there : within at width s ≡ true = sym copy-in-fits ∙ sym p ∙ e in
       let l : length (part at width s) ≡ width = length-part at width s (leb-true (at + width) (length s) there) in
       rw (le-leb width 8 small, there, le-leb (8 - width + width) 8 (omega arith))
       (ap Value (ap (λ (k : ℕ). number (placed (8 - k) (part at width s) (replicate 8 zero))) (sym l)
       ∙ worth-padded 256 8 (part at width s) (omega arith)))
 
 module _ (d : List ℕ) (at width n : ℕ) (small : width ≤ 8) (fits : ltb n (256 ^ width) ≡ true) where
-  pub write-fits : copyFits (bytesOf 8 n) (8 - width) width d at ≡ numberFits d at width n
-  write-fits = rw (le-leb width 8 small, fits, le-leb (8 - width + width) 8 (omega arith))
+  copy-out-fits : copyFits (bytesOf 8 n) (8 - width) width d at ≡ numberFits d at width n
+  copy-out-fits = rw (le-leb width 8 small, fits, le-leb (8 - width + width) 8 (omega arith))
 
-  pub write-copied : copied (bytesOf 8 n) (8 - width) width d at ≡ written d at width n
+  copy-out : copied (bytesOf 8 n) (8 - width) width d at ≡ written d at width n
   unfolding copied written
-  write-copied =
+  copy-out =
       rw (le-leb width 8 small, fits, le-leb (8 - width + width) 8 (omega arith))
       (ap (λ (p : List ℕ). cond (within at width d) (placed at p d) d) (part-digits 256 8 width n small))
+
+  -- `did` is what the copy answered, `b` its source and `e` what it left
+  pub write-fits : {did : Bool} {b : List ℕ} → b ≡ bytesOf 8 n → did ≡ copyFits b (8 - width) width d at → did ≡ numberFits d at width n
+  write-fits p q = q ∙ rw p copy-out-fits
+
+  pub write-copied : {e b : List ℕ} → b ≡ bytesOf 8 n → e ≡ copied b (8 - width) width d at → e ≡ written d at width n
+  write-copied p q = q ∙ rw p copy-out
 
 -- ---- a write keeps the length, and every byte outside its places
 

@@ -1,7 +1,6 @@
 -- `octets::numbers::read_number` meets its contract: the bytes are copied to the end of eight zeros, and those are worth
 -- what the bytes are worth.
 use native.Mathlib.Omega.{arith}
-use mathlib.Core.Path.{sym, _∙_}
 use borrow.Author.Needs.{needs}
 use borrow.Author.Tests.{lt-leb, not-true, not-false}
 use denote.Ref.{now}
@@ -23,7 +22,7 @@ copy-part-requires c κs = search needs
 returns-2 : tie.Need-returns-2
 returns-2 c =
     let a = c .before .before .before .before .before .before .args in
-    read-refused (now (a .s)) (a .at) (a .width) (omega arith) (sym (c .before .before .copy-part .ensures .0) ∙ not-true _ (c .if2 .taken))
+    read-refused (now (a .s)) (a .at) (a .width) (omega arith) (c .before .before .copy-part .ensures .0) (not-true _ (c .if2 .taken))
 
 number8-requires : tie.Need-number8-requires
 number8-requires c κs = search needs
@@ -33,7 +32,7 @@ returns-3 c =
     let a = c .before .before .before .before .before .before .before .args in
     let copy = c .before .before .before .copy-part .ensures in
     rw (c .number8 .ensures, copy .1)
-    (read-copied (now (a .s)) (a .at) (a .width) (omega arith) (sym (copy .0) ∙ not-false _ (c .before .if2 .left)))
+    (read-copied (now (a .s)) (a .at) (a .width) (omega arith) (copy .0) (not-false _ (c .before .if2 .left)))
 
 pub read-number-spec : {M : Type 1} → statement M
 read-number-spec =

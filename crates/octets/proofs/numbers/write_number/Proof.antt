@@ -44,8 +44,8 @@ returns-3 c =
     let copy = c .before .before .copy-part .ensures in
     let f = sym (at .before .fits-width .ensures) ∙ not-false _ (at .if2 .left) in
     let bytes = c .before .before .before .before .before .bytes8 .ensures in (
-      rw bytes at (copy .0) ∙ write-fits (now (a .dst)) (a .at) (a .width) (a .n) (omega arith) f,
-      rw bytes at (copy .1) ∙ write-copied (now (a .dst)) (a .at) (a .width) (a .n) (omega arith) f,
+      write-fits (now (a .dst)) (a .at) (a .width) (a .n) (omega arith) f bytes (copy .0),
+      write-copied (now (a .dst)) (a .at) (a .width) (a .n) (omega arith) f bytes (copy .1),
     )
 
 pub write-number-spec : {M : Type 1} → statement M
