@@ -17,6 +17,7 @@ use Rattle.octets.specs.Places.{within, part, placed, copyFits, copied, 
 
 -- ---- places that are there
 
+-- the rest from `at` on is long enough exactly if all the places are there
 pub within-rest : (at count n : ℕ) → at ≤ n → leb count (n - at) ≡ leb (at + count) n
 within-rest at count n h = go (decLe count (n - at))
   where

@@ -41,6 +41,7 @@ remainderOf bytes = remainder 0 (message bytes ++ replicate 8 0)
 unfoldable pub mirrored : ℕ → ℕ
 mirrored r = worth 2 (bits 8 r)
 
+-- The CRC of bytes is that byte of theirs.
 unfoldable pub crc : List ℕ → ℕ
 crc bytes = mirrored (remainderOf bytes)
 
