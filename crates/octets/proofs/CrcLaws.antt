@@ -11,7 +11,7 @@ use lib.Bits.{bitXor, xor-shr, xor-mod, xor-block, xor-self, xor-zero-r, xor-lt}
 use lib.ListN.{length, getD, drop, replicate, drop-of-length-le}
 use lib.Seq.{drop-cons}
 use native.Mathlib.Numerals.{add-one}
-use Rattle.octets.specs.Crc.{generator, modulo, remainder, bits, message, mirrored, crc, crcFrom}
+use Rattle.octets.specs.Crc.{withCrc, generator, modulo, remainder, bits, message, mirrored, crc, crcFrom}
 use Rattle.octets.proofs.Tabulate.{same}
 use Rattle.octets.proofs.Xor.{low, xor-assoc, xor-cross}
 
@@ -159,7 +159,7 @@ unfolding crc message remainder mirrored modulo bits
 crc-zero = refl
 
 -- bytes followed by their own CRC give 0 (5.2 e)
-pub crc-checked : (xs : List ℕ) → crc (xs ++ (crc xs ∷ [])) ≡ 0
+pub crc-checked : (xs : List ℕ) → crc (withCrc xs) ≡ 0
 crc-checked xs = crc-snoc xs (crc xs) ∙ ap (λ (k : ℕ). crc (k ∷ [])) (xor-self (crc xs)) ∙ crc-zero
 
 crc-of-one : (k : ℕ) → k < 256 → crc (k ∷ []) ≡ 0 → k ≡ 0

@@ -102,11 +102,24 @@ module _ (base : ℕ) (some : zero < base) where
       (ap (λ (m : ℕ). m % base) (digits-div d (worth-below ds (t .1))) ∙ mod-eq-of-lt (t .0))
       (digits-above (length ds) d (worth base ds) ∙ digits-worth ds (t .1))
 
+-- a number that its bytes reach is what they are worth
+pub number-bytes : (width n : ℕ) → n < 256 ^ width → number (bytesOf width n) ≡ n
+number-bytes width n h = worth-digits 256 (omega arith) width n ∙ mod-eq-of-lt h
+
+digits-part : (s : List ℕ) (at width : ℕ) → Digits 256 s → Digits 256 (part at width s)
+digits-part s at width t = digits-take 256 width (drop at s) (digits-drop 256 at s t)
+
+-- bytes of a place are the bytes of the number that they are worth
+pub bytes-part : (s : List ℕ) (at width : ℕ) → Digits 256 s → at + width ≤ length s
+    → bytesOf width (number (part at width s)) ≡ part at width s
+bytes-part s at width t h =
+    rw (length-part at width s h) at (digits-worth 256 (omega arith) (part at width s) (digits-part s at width t))
+
 -- a number of some bytes, read out of bytes, is below 256 to the power of how many they are
 pub number-below : (s : List ℕ) (at width : ℕ) → Digits 256 s → at + width ≤ length s → number (part at width s) < 256 ^ width
 number-below s at width t h =
     rw (length-part at width s h) at
-    (worth-below 256 (omega arith) (part at width s) (digits-take 256 width (drop at s) (digits-drop 256 at s t)))
+    (worth-below 256 (omega arith) (part at width s) (digits-part s at width t))
 
 -- ---- parts, padding and width: what reading and writing through eight bytes asks
 
@@ -152,7 +165,7 @@ read-written d at width n small fits there =
     let kept : length (placed at p d) ≡ length d = length-placed at p d room in
     let back : part at width (placed at p d) ≡ p = ap (λ (k : ℕ). part at k (placed at p d)) (sym l) ∙ part-placed at p d room in
     rw (le-leb width 8 small, lt-ltb n (256 ^ width) fits, le-leb (at + width) (length d) there, kept, le-leb (at + width) (length d) there)
-    (ap Value (ap number back ∙ worth-digits 256 (omega arith) width n ∙ mod-eq-of-lt fits))
+    (ap Value (ap number back ∙ number-bytes width n fits))
 
 -- ---- a part of s, copied to the end of eight zeros, read as a number; and of eight bytes the lowest, copied out
 

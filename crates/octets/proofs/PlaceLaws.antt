@@ -2,14 +2,14 @@
 use mathlib.Core.Path.{_≡_, refl, sym, ap, _∙_}
 use mathlib.Core.Bool.{Bool, true, false, cond, _&&_, false≢true}
 use mathlib.Core.Logic.{_⊎_, inl, inr, ⊎-elim}
-use mathlib.Core.List.{List, _++_, append-assoc}
-use Prim.Native.Nat.{ℕ, _+_, _-_, _<_, _≤_}
+use mathlib.Core.List.{List, [], _∷_, _++_, append-assoc, append-nil}
+use Prim.Native.Nat.{ℕ, suc, _+_, _-_, _<_, _≤_}
 use native.Mathlib.Omega.{arith}
 use native.Mathlib.Decide.{decLe}
-use native.Mathlib.Nat.{lt-of-not-le, add-assoc}
+use native.Mathlib.Nat.{lt-of-not-le, add-assoc, add-zero}
 use borrow.Author.Tests.{leb-true, le-leb, lt-leb}
 use lib.Dec.{leb}
-use lib.ListN.{length, getD, take, drop, replicate, length-replicate, length-append, length-take, length-drop, List·getD-append}
+use lib.ListN.{length, getD, take, drop, replicate, length-replicate, length-append, length-take, length-drop, take-append-drop, List·getD-append}
 use lib.Seq.{ext-getD, paste, length-take-le, take-length, take-at, drop-at, drop-drop, getD-take, getD-drop, getD-append-add}
 use Rattle.octets.proofs.Tabulate.{tabulate, length-tabulate}
 use Rattle.octets.proofs.Tabulate.{at as at-place}
@@ -34,13 +34,14 @@ pub part-at : (from count : ℕ) (s : List ℕ) (i : ℕ) → i < count → getD
 part-at from count s i h = getD-take count (drop from s) i 0 h ∙ getD-drop from s i 0
 
 -- a part of a length that is written out, byte by byte: as a reader of fixed places has it
-pub part-bytes : (from count : ℕ) (s : List ℕ) → from + count ≤ length s
-    → part from count s ≡ tabulate 0 count (λ k. getD s (from + k) 0)
+pub part-bytes : (from count : ℕ) (s : List ℕ) → from + suc count ≤ length s
+    → part from (suc count) s ≡ getD s from 0 ∷ tabulate 1 count (λ k. getD s (from + k) 0)
 part-bytes from count s h =
-    let l = length-part from count s h in
-    ext-getD 0 (part from count s) (tabulate 0 count (λ k. getD s (from + k) 0))
-    (l ∙ sym (length-tabulate (λ k. getD s (from + k) 0) 0 count))
-    (λ i g. part-at from count s i (omega arith) ∙ sym (at-place (λ k. getD s (from + k) 0) count i (omega arith)))
+    let l = length-part from (suc count) s h in
+    let f : ℕ → ℕ = λ k. getD s (from + k) 0 in
+    ext-getD 0 (part from (suc count) s) (tabulate 0 (suc count) f) (l ∙ sym (length-tabulate f 0 (suc count)))
+    (λ i g. part-at from (suc count) s i (omega arith) ∙ sym (at-place 0 f (suc count) i (omega arith)))
+    ∙ ap (λ (k : ℕ). getD s k 0 ∷ tabulate 1 count f) (add-zero from)
 
 -- ---- bytes put at a place
 
@@ -120,9 +121,31 @@ placed-on at p q d h =
       append-assoc (take at d) p q,
     )
 
+-- no bytes put, wherever
+pub placed-none : (at : ℕ) (d : List ℕ) → placed at [] d ≡ d
+placed-none at d = rw (append-nil (take at d), add-zero at) (take-append-drop at d)
+
+-- bytes put over their own places stay
+pub placed-same : (at count : ℕ) (d : List ℕ) → at + count ≤ length d → placed at (part at count d) d ≡ d
+placed-same at count d h =
+    rw (length-part at count d h, append-assoc (take at d) (part at count d) (drop (at + count) d), ← drop-drop count at d)
+    (ap (λ (l : List ℕ). take at d ++ l) (take-append-drop count (drop at d)) ∙ take-append-drop at d)
+
+-- bytes put at the start hide what was put where they stand
+pub placed-over : (at : ℕ) (p q d : List ℕ) → at + length q ≤ length p → length p ≤ length d → placed 0 p (placed at q d) ≡ placed 0 p d
+placed-over at p q d h k =
+    let over : length q ≤ length d - at = omega arith in
+    ap (λ (l : List ℕ). p ++ l)
+    (ext-getD 0 (drop (0 + length p) (placed at q d)) (drop (0 + length p) d)
+    (rw (length-drop (0 + length p) (placed at q d), length-drop (0 + length p) d, length-placed at q d (omega arith)))
+    (λ i g.
+    getD-drop (0 + length p) (placed at q d) i 0
+    ∙ placed-after at q d (omega arith) (0 + length p + i) (omega arith)
+    ∙ sym (getD-drop (0 + length p) d i 0)))
+
 -- ---- copies and fills, whether they fit or not
 
-first-true : (a b : Bool) → (a && b) ≡ true → a ≡ true
+pub first-true : (a b : Bool) → (a && b) ≡ true → a ≡ true
 first-true true b e = refl
 first-true false b e = e
 
@@ -136,6 +159,10 @@ module _ (at : ℕ) (p d : List ℕ) where
   placed-if-length true h = length-placed at p d (h refl)
   placed-if-length false h = refl
 
+  pub placed-if-none : (t : Bool) → p ≡ [] → cond t (placed at p d) d ≡ d
+  placed-if-none true e = ap (λ (l : List ℕ). placed at l d) e ∙ placed-none at d
+  placed-if-none false e = refl
+
   pub placed-if-outside : (t : Bool) → (t ≡ true → at + length p ≤ length d) → (i : ℕ) → (i < at) ⊎ (at + length p ≤ i)
       → getD (cond t (placed at p d) d) i 0 ≡ getD d i 0
   placed-if-outside true h i o = ⊎-elim (placed-before at p d (h refl) i) (placed-after at p d (h refl) i) o
@@ -146,6 +173,14 @@ module _ (s : List ℕ) (from count : ℕ) (d : List ℕ) (at : ℕ) where
   copy-room e =
       let r = leb-true (at + count) (length d) (second-true (within from count s) (within at count d) e) in
       simp length-take (omega arith)
+
+  pub copied-done : from + count ≤ length s → at + count ≤ length d → copied s from count d at ≡ placed at (part from count s) d
+  unfolding copied
+  copied-done h k = rw (le-leb (from + count) (length s) h, le-leb (at + count) (length d) k)
+
+  pub copied-none : count ≡ 0 → copied s from count d at ≡ d
+  unfolding copied
+  copied-none e = placed-if-none at (part from count s) d (copyFits s from count d at) (ap (λ (n : ℕ). take n (drop from s)) e)
 
   pub length-copied : length (copied s from count d at) ≡ length d
   unfolding copied
@@ -168,6 +203,14 @@ module _ (s : List ℕ) (from count : ℕ) (d : List ℕ) (at : ℕ) where
 module _ (d : List ℕ) (at count b : ℕ) where
   fill-room : within at count d ≡ true → at + length (replicate count b) ≤ length d
   fill-room e = let r = leb-true (at + count) (length d) e in simp length-replicate (omega arith)
+
+  pub filled-done : at + count ≤ length d → filled d at count b ≡ placed at (replicate count b) d
+  unfolding filled
+  filled-done h = rw (le-leb (at + count) (length d) h)
+
+  pub filled-none : count ≡ 0 → filled d at count b ≡ d
+  unfolding filled
+  filled-none e = placed-if-none at (replicate count b) d (within at count d) (ap (λ (n : ℕ). replicate n b) e)
 
   pub length-filled : length (filled d at count b) ≡ length d
   unfolding filled

@@ -7,22 +7,22 @@ use lib.ListN.{length, getD}
 use lib.Seq.{ext-getD}
 
 -- f at the n numbers from i on
-abbrev pub tabulate : ℕ → ℕ → (ℕ → ℕ) → List ℕ
+abbrev pub tabulate : {A : Type 0} → ℕ → ℕ → (ℕ → A) → List A
 tabulate i zero f = []
 tabulate i (suc n) f = f i ∷ tabulate (suc i) n f
 
-from : (f : ℕ → ℕ) (i n k : ℕ) → k < n → getD (tabulate i n f) k 0 ≡ f (i + k)
-from f i zero k h = absurd (not-suc-le-zero h)
-from f i (suc n) zero h = ap f (sym (add-zero i))
-from f i (suc n) (suc k) h = from f (suc i) n k (le-of-suc-le-suc h) ∙ ap f (suc-add i k ∙ sym (add-suc i k))
+from : {A : Type 0} (d : A) (f : ℕ → A) (i n k : ℕ) → k < n → getD (tabulate i n f) k d ≡ f (i + k)
+from d f i zero k h = absurd (not-suc-le-zero h)
+from d f i (suc n) zero h = ap f (sym (add-zero i))
+from d f i (suc n) (suc k) h = from d f (suc i) n k (le-of-suc-le-suc h) ∙ ap f (suc-add i k ∙ sym (add-suc i k))
 
-pub at : (f : ℕ → ℕ) (n k : ℕ) → k < n → getD (tabulate 0 n f) k 0 ≡ f k
-at f n k h = from f 0 n k h ∙ ap f (zero-add k)
+pub at : {A : Type 0} (d : A) (f : ℕ → A) (n k : ℕ) → k < n → getD (tabulate 0 n f) k d ≡ f k
+at d f n k h = from d f 0 n k h ∙ ap f (zero-add k)
 
 pub same : (f g : ℕ → ℕ) (n : ℕ) → tabulate 0 n f ≡ tabulate 0 n g → (k : ℕ) → k < n → f k ≡ g k
-same f g n e k h = sym (at f n k h) ∙ ap (λ (l : List ℕ). getD l k 0) e ∙ at g n k h
+same f g n e k h = sym (at 0 f n k h) ∙ ap (λ (l : List ℕ). getD l k 0) e ∙ at 0 g n k h
 
-pub length-tabulate : (f : ℕ → ℕ) (i n : ℕ) → length (tabulate i n f) ≡ n
+pub length-tabulate : {A : Type 0} (f : ℕ → A) (i n : ℕ) → length (tabulate i n f) ≡ n
 length-tabulate f i zero = refl
 length-tabulate f i (suc n) = ap suc (length-tabulate f (suc i) n)
 
@@ -30,4 +30,4 @@ length-tabulate f i (suc n) = ap suc (length-tabulate f (suc i) n)
 pub tabulated : (l : List ℕ) (n : ℕ) → length l ≡ n → l ≡ tabulate 0 n (λ k. getD l k 0)
 tabulated l n e =
     ext-getD 0 l (tabulate 0 n (λ k. getD l k 0)) (e ∙ sym (length-tabulate (λ k. getD l k 0) 0 n))
-    (λ i h. sym (at (λ k. getD l k 0) n i (rw e at h)))
+    (λ i h. sym (at 0 (λ k. getD l k 0) n i (rw e at h)))

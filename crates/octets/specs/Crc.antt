@@ -45,6 +45,10 @@ mirrored r = worth 2 (bits 8 r)
 unfoldable pub crc : List ℕ → ℕ
 crc bytes = mirrored (remainderOf bytes)
 
+-- Bytes followed by their own CRC (5.2 e).
+abbrev pub withCrc : List ℕ → List ℕ
+withCrc bytes = bytes ++ (crc bytes ∷ [])
+
 -- Byte by byte, going on from c, as Annex A.3 does (its table at INCRC xor INBYTE): of c xor the byte, the CRC of that one byte.
 -- Where c is the CRC of what came before, this is the CRC of all of it: crc-append, a law.
 unfoldable pub crcFrom : ℕ → List ℕ → ℕ

@@ -19,3 +19,14 @@ pub(crate) fn line(bytes: &[u8]) {
     }
     text(b"\n");
 }
+
+// What a call answered, and the buffer after it.
+pub(crate) fn outcome(name: &[u8], did: bool, buffer: &[u8]) {
+    text(name);
+    if did {
+        text(b": done,");
+    } else {
+        text(b": refused,");
+    }
+    line(buffer);
+}

@@ -1,0 +1,6 @@
+pub mod Examples
+pub mod PathLaws
+pub mod ReadingLaws
+pub mod HeaderLaws
+pub mod ReplyLaws
+pub mod TimeLaws

@@ -1,0 +1,156 @@
+-- Laws of reading: what a packet is read as, case by case.
+use mathlib.Core.Path.{_≡_, refl, ap}
+use mathlib.Core.Bool.{Bool, true, false, cond, _&&_, _||_}
+use mathlib.Core.Logic.{_⊎_, inl, inr}
+use mathlib.Core.List.{List}
+use Prim.Native.Nat.{ℕ, _<_, _≤_}
+use native.Mathlib.Omega.{arith}
+use borrow.Author.Tests.{lt-ltb, le-ltb, le-leb, lt-leb, eq-eqb, ne-eqb, ltb-false, eqb-true, eqb-false}
+use lib.Dec.{eqb, leb, ltb}
+use lib.ListN.{length, getD, take}
+use Rattle.octets.specs.Crc.{crc}
+use Rattle.packets.specs.Instruction.{typeOf, headerSize}
+use Rattle.packets.specs.Header.{instructionAt}
+use Rattle.packets.specs.Reading.{refused, timePacket, command, readCommand, readProtocol, readPacket}
+use Rattle.packets.specs.declared.path.Path.{Path}
+use Rattle.packets.specs.declared.header.Header.{Header}
+use Rattle.packets.specs.declared.reading.Packet.{Packet}
+use Rattle.packets.specs.declared.reading.Reading.the-variants.{Refused, Time, Command}
+use Rattle.packets.specs.declared.reading.Refusal.{Refusal}
+use Rattle.packets.specs.declared.reading.Refusal.the-variants.{Incomplete, UnknownProtocol, ExtendedProtocol, Reply, HeaderCrc}
+
+-- ---- the checks of a command, in their order
+
+module _ (p : List ℕ) where
+  pub read-short : length p < 3 → refused Incomplete ≡ readCommand p
+  unfolding readCommand
+  read-short h = simp (lt-ltb _ _ h)
+
+  module _ (three : 3 ≤ length p) where
+    pub read-reply : typeOf (instructionAt p) ≡ 0 → refused Reply ≡ readCommand p
+    unfolding readCommand
+    read-reply h = simp (le-ltb _ _ three, eq-eqb _ _ h)
+
+    module _ (no-reply : typeOf (instructionAt p) ≡ 0 → ⊥) where
+      pub read-cut : length p < headerSize (instructionAt p) → refused Incomplete ≡ readCommand p
+      unfolding readCommand
+      read-cut h = simp (le-ltb _ _ three, ne-eqb _ _ no-reply, lt-ltb _ _ h)
+
+      module _ (whole : headerSize (instructionAt p) ≤ length p) where
+        pub read-damaged : (crc (take (headerSize (instructionAt p)) p) ≡ 0 → ⊥) → refused HeaderCrc ≡ readCommand p
+        unfolding readCommand
+        read-damaged h = simp (le-ltb _ _ three, ne-eqb _ _ no-reply, le-ltb _ _ whole, ne-eqb _ _ h)
+
+        pub read-whole : crc (take (headerSize (instructionAt p)) p) ≡ 0 → command p ≡ readCommand p
+        unfolding readCommand
+        read-whole h = simp (le-ltb _ _ three, ne-eqb _ _ no-reply, le-ltb _ _ whole, eq-eqb _ _ h)
+
+-- ---- the protocol
+
+module _ (q : ℕ) (p : List ℕ) (n : ℕ) where
+  pub protocol-extended : q ≡ 0x00 → refused ExtendedProtocol ≡ readProtocol q p n
+  unfolding readProtocol
+  protocol-extended e = rw e
+
+  pub protocol-command : (q ≡ 0x01) ⊎ (q ≡ 0x03) → readCommand p ≡ readProtocol q p n
+  unfolding readProtocol
+  protocol-command (inl e) = rw e
+  protocol-command (inr e) = rw e
+
+  module _ (h : 0xF0 ≤ q) (k : q ≤ 0xFE) where
+    other : (m : ℕ) → m < 0xF0 → q ≡ m → ⊥
+    other m l e = omega arith
+
+    pub protocol-time : q ≡ n → timePacket ≡ readProtocol q p n
+    unfolding readProtocol
+    protocol-time e = rw (
+      ne-eqb q 0x01 (other 0x01 (omega arith)),
+      ne-eqb q 0x03 (other 0x03 (omega arith)),
+      ne-eqb q 0x00 (other 0x00 (omega arith)),
+      le-leb 0xF0 q h,
+      le-leb q 0xFE k,
+      eq-eqb q n e,
+    )
+
+    pub protocol-other-number : (q ≡ n → ⊥) → refused UnknownProtocol ≡ readProtocol q p n
+    unfolding readProtocol
+    protocol-other-number e = rw (
+      ne-eqb q 0x01 (other 0x01 (omega arith)),
+      ne-eqb q 0x03 (other 0x03 (omega arith)),
+      ne-eqb q 0x00 (other 0x00 (omega arith)),
+      le-leb 0xF0 q h,
+      le-leb q 0xFE k,
+      ne-eqb q n e,
+    )
+
+  module _ (x : q ≡ 0x00 → ⊥) (y : q ≡ 0x01 → ⊥) (z : q ≡ 0x03 → ⊥) where
+    pub protocol-below : q < 0xF0 → refused UnknownProtocol ≡ readProtocol q p n
+    unfolding readProtocol
+    protocol-below h = rw (ne-eqb q 0x01 y, ne-eqb q 0x03 z, ne-eqb q 0x00 x, lt-leb 0xF0 q h)
+
+    pub protocol-above : 0xFE < q → refused UnknownProtocol ≡ readProtocol q p n
+    unfolding readProtocol
+    protocol-above h = rw (ne-eqb q 0x01 y, ne-eqb q 0x03 z, ne-eqb q 0x00 x, le-leb 0xF0 q (omega arith), lt-leb q 0xFE h)
+
+pub packet-short : (p : List ℕ) (n : ℕ) → length p < 2 → refused Incomplete ≡ readPacket p n
+unfolding readPacket
+packet-short p n h = rw (lt-ltb _ _ h)
+
+pub packet-protocol : (p : List ℕ) (n : ℕ) → 2 ≤ length p → readProtocol (getD p 1 0) p n ≡ readPacket p n
+unfolding readPacket
+packet-protocol p n h = rw (le-ltb _ _ h)
+
+-- ---- back from a packet that was read as a command: what the checks have shown
+
+abbrev is-command : Packet → ℕ
+is-command p = elim (p .reading) [ Refused why ↦ 0 | Time ↦ 0 | Command h ↦ 1 ]
+
+no-command : {h : Header} {k : Path} (p : Packet) → is-command p ≡ 0 → p ≡ record { reading = Command h; path = k } → ⊥
+no-command p z e = omega (arith, z, ap is-command e)
+
+one-of-two : (q : ℕ) → (eqb q 0x01 || eqb q 0x03) ≡ true → (q ≡ 0x01) ⊎ (q ≡ 0x03)
+one-of-two q e = go (eqb q 0x01) refl
+  where
+    go : (t : Bool) → eqb q 0x01 ≡ t → (q ≡ 0x01) ⊎ (q ≡ 0x03)
+    go true f = inl (eqb-true q 0x01 f)
+    go false f = inr (eqb-true q 0x03 (rw f at e))
+
+-- of four tests in a row, each of which refuses, none did
+module _ {h : Header} {k : Path} where
+  passed : (a b c d : Bool) (r s t u : Refusal) (p : Packet)
+      → cond a (refused r) (cond b (refused s) (cond c (refused t) (cond d p (refused u)))) ≡ record { reading = Command h; path = k }
+      → (a ≡ false) × (b ≡ false) × (c ≡ false) × (p ≡ record { reading = Command h; path = k })
+  passed true b c d r s t u p e = absurd (no-command (refused r) refl e)
+  passed false true c d r s t u p e = absurd (no-command (refused s) refl e)
+  passed false false true d r s t u p e = absurd (no-command (refused t) refl e)
+  passed false false false true r s t u p e = (refl, refl, refl, e)
+  passed false false false false r s t u p e = absurd (no-command (refused u) refl e)
+
+  protocol-passed : (a b c d : Bool) (r s t : Refusal) (p : Packet)
+      → cond a (refused r) (cond b p (cond c (refused s) (cond d timePacket (refused t)))) ≡ record { reading = Command h; path = k }
+      → (b ≡ true) × (p ≡ record { reading = Command h; path = k })
+  protocol-passed true b c d r s t p e = absurd (no-command (refused r) refl e)
+  protocol-passed false true c d r s t p e = (refl, e)
+  protocol-passed false false true d r s t p e = absurd (no-command (refused s) refl e)
+  protocol-passed false false false true r s t p e = absurd (no-command timePacket refl e)
+  protocol-passed false false false false r s t p e = absurd (no-command (refused t) refl e)
+
+  -- it has protocol 01 or 03, and was read by the checks above
+  pub packet-command : (p : List ℕ) (n : ℕ) → readPacket p n ≡ record { reading = Command h; path = k }
+      → ((getD p 1 0 ≡ 0x01) ⊎ (getD p 1 0 ≡ 0x03)) × (readCommand p ≡ record { reading = Command h; path = k })
+  unfolding readPacket readProtocol
+  packet-command p n e =
+      let q = getD p 1 0 in
+      let t = protocol-passed (ltb (length p) 2) (eqb q 0x01 || eqb q 0x03) (eqb q 0x00) (leb 0xF0 q && leb q 0xFE && eqb q n)
+      Incomplete ExtendedProtocol UnknownProtocol (readCommand p) e in
+      (one-of-two q (t .0), t .1)
+
+  -- its header is whole, it is no reply, and its parts and its path are those at their places
+  pub command-read : (p : List ℕ) → readCommand p ≡ record { reading = Command h; path = k }
+      → (headerSize (instructionAt p) ≤ length p) × (typeOf (instructionAt p) ≡ 0 → ⊥) × (command p ≡ record { reading = Command h; path = k })
+  unfolding readCommand
+  command-read p e =
+      let i = instructionAt p in
+      let t = passed (ltb (length p) 3) (eqb (typeOf i) 0) (ltb (length p) (headerSize i)) (eqb (crc (take (headerSize i) p)) 0)
+      Incomplete Reply Incomplete HeaderCrc (command p) e in
+      (ltb-false (length p) (headerSize i) (t .2), eqb-false (typeOf i) 0 (t .1), t .3)

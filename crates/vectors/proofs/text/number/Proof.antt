@@ -1,0 +1,63 @@
+-- `vectors::text::number` is safe and ends: the place stays within the field, and what the sum could lose is dropped before.
+use Prim.Native.Nat.{_-_, _≤_}
+use lib.ListN.{length}
+use borrow.Author.Needs.{needs}
+use Rattle.vectors.proofs.text.number.Statement.{statement}
+use Rattle.vectors.proofs.text.number.Tie as tie
+
+abbrev Inv-loop : tie.InvT-loop
+Inv-loop s end n₀ i₀ n i = (i ≤ end) × (end ≤ length s)
+
+abbrev μ-loop : tie.MeasureT-loop
+μ-loop s end n₀ i₀ n i = end - i
+
+find-requires : tie.Need-find-requires Inv-loop μ-loop
+find-requires c κs = search needs
+
+loop-holds : tie.Need-loop-holds Inv-loop μ-loop
+loop-holds c = search needs
+
+mul-n : tie.Need-mul-n Inv-loop μ-loop
+mul-n c = search needs
+
+shared-slice-read-digit : tie.Need-shared-slice-read-digit Inv-loop μ-loop
+shared-slice-read-digit c = search needs
+
+digit-requires : tie.Need-digit-requires Inv-loop μ-loop
+digit-requires c κs = search needs
+
+cast-n : tie.Need-cast-n Inv-loop μ-loop
+cast-n c = search needs
+
+add-n : tie.Need-add-n Inv-loop μ-loop
+add-n c = search needs
+
+add-i : tie.Need-add-i Inv-loop μ-loop
+add-i c = search needs
+
+loop-less : tie.Need-loop-less Inv-loop μ-loop
+loop-less c = search needs
+
+loop-again : tie.Need-loop-again Inv-loop μ-loop
+loop-again c = search needs
+
+returns : tie.Need-returns Inv-loop μ-loop
+returns c = search needs
+
+pub number-spec : {M : Type 1} → statement M
+number-spec =
+    tie.close
+    (tie.spec
+    Inv-loop
+    μ-loop
+    find-requires
+    loop-holds
+    mul-n
+    shared-slice-read-digit
+    digit-requires
+    cast-n
+    add-n
+    add-i
+    loop-less
+    loop-again
+    returns)
