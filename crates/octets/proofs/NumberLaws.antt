@@ -47,6 +47,11 @@ pub digits-of : (base : ℕ) (ds : List ℕ) → ((k : ℕ) → getD ds k 0 < ba
 digits-of base [] h = tt
 digits-of base (d ∷ ds) h = (h 0, digits-of base ds (λ k. h (suc k)))
 
+pub digits-at : (base : ℕ) (ds : List ℕ) (k : ℕ) → zero < base → Digits base ds → getD ds k 0 < base
+digits-at base [] k some t = some
+digits-at base (d ∷ ds) zero some t = t .0
+digits-at base (d ∷ ds) (suc k) some t = digits-at base ds k some (t .1)
+
 digits-take : (base n : ℕ) (ds : List ℕ) → Digits base ds → Digits base (take n ds)
 digits-take base zero ds t = tt
 digits-take base (suc n) [] t = tt

@@ -10,7 +10,7 @@ use native.Mathlib.Nat.{lt-of-not-le, add-assoc, add-zero}
 use borrow.Author.Tests.{leb-true, le-leb, lt-leb}
 use lib.Dec.{leb}
 use lib.ListN.{length, getD, take, drop, replicate, length-replicate, length-append, length-take, length-drop, take-append-drop, List·getD-append}
-use lib.Seq.{ext-getD, paste, length-take-le, take-length, take-at, drop-at, drop-drop, getD-take, getD-drop, getD-append-add}
+use lib.Seq.{ext-getD, paste, take-add, drop-append-add, length-take-le, take-length, take-at, drop-at, drop-drop, getD-take, getD-drop, getD-append-add}
 use Rattle.octets.proofs.Tabulate.{tabulate, length-tabulate}
 use Rattle.octets.proofs.Tabulate.{at as at-place}
 use Rattle.octets.specs.Places.{within, part, placed, copyFits, copied, filled}
@@ -42,6 +42,22 @@ part-bytes from count s h =
     ext-getD 0 (part from (suc count) s) (tabulate 0 (suc count) f) (l ∙ sym (length-tabulate f 0 (suc count)))
     (λ i g. part-at from (suc count) s i (omega arith) ∙ sym (at-place 0 f (suc count) i (omega arith)))
     ∙ ap (λ (k : ℕ). getD s k 0 ∷ tabulate 1 count f) (add-zero from)
+
+-- a part in two: what comes first, and what stands from its end on
+pub part-split : (from m k to : ℕ) (s : List ℕ) → from + m ≡ to → part from (m + k) s ≡ part from m s ++ part to k s
+part-split from m k to s e =
+    rw (← e) (take-add m k (drop from s) ∙ ap (λ (l : List ℕ). part from m s ++ take k l) (drop-drop m from s))
+
+pub part-first : (from k to : ℕ) (s : List ℕ) → from + 1 ≡ to → to ≤ length s → part from (1 + k) s ≡ getD s from 0 ∷ part to k s
+part-first from k to s e h =
+    part-split from 1 k to s e ∙ ap (λ (l : List ℕ). l ++ part to k s) (part-bytes from 0 s (omega arith))
+
+-- what stands behind x, from its end on
+pub part-behind : (x y : List ℕ) (at j count : ℕ) → length x ≡ at → part (at + j) count (x ++ y) ≡ part j count y
+part-behind x y at j count e = rw (← e, drop-append-add x y j)
+
+pub part-at-behind : (x y : List ℕ) (at j : ℕ) → length x ≡ at → getD (x ++ y) (at + j) 0 ≡ getD y j 0
+part-at-behind x y at j e = rw (← e) (getD-append-add x y j 0)
 
 -- ---- bytes put at a place
 

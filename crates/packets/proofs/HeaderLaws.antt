@@ -2,15 +2,15 @@
 use mathlib.Core.Path.{_≡_, refl, sym, ap, _∙_}
 use mathlib.Core.Logic.{_⊎_}
 use mathlib.Core.List.{List, [], _∷_, _++_, append-assoc}
-use Prim.Native.Nat.{ℕ, suc, zero, _+_, _-_, _^_, _<_, _≤_}
+use Prim.Native.Nat.{ℕ, _+_, _-_, _^_, _<_, _≤_}
 use native.Mathlib.Omega.{arith}
 use lib.ListN.{length, getD, take, drop, length-append}
-use lib.Seq.{take-at, take-add, drop-append-add, drop-drop, getD-at, getD-append-add}
+use lib.Seq.{take-at, getD-at}
 use Rattle.octets.specs.Places.{part}
 use Rattle.octets.specs.Numbers.{Digits}
 use Rattle.octets.specs.Crc.{crc, withCrc}
-use Rattle.octets.proofs.PlaceLaws.{part-bytes}
-use Rattle.octets.proofs.NumberLaws.{number-bytes, bytes-part}
+use Rattle.octets.proofs.PlaceLaws.{part-bytes, part-behind, part-at-behind, part-split, part-first}
+use Rattle.octets.proofs.NumberLaws.{number-bytes, bytes-part, digits-at}
 use Rattle.octets.proofs.CrcLaws.{crc-checked, crc-only}
 use Rattle.packets.specs.Instruction.{typeOf, replyAddressSize, headerSize}
 use Rattle.packets.specs.Path.{kept}
@@ -34,13 +34,6 @@ module _ (p : List ℕ) (at : ℕ) (whole : at + 12 ≤ length p) where
 
 -- ---- from parts to bytes and back
 
--- what stands from a place on, behind as many bytes
-part-behind : (x y : List ℕ) (at j count : ℕ) → length x ≡ at → part (at + j) count (x ++ y) ≡ part j count y
-part-behind x y at j count e = rw (← e, drop-append-add x y j)
-
-getD-behind : (x y : List ℕ) (at j : ℕ) → length x ≡ at → getD (x ++ y) (at + j) 0 ≡ getD y j 0
-getD-behind x y at j e = rw (← e) (getD-append-add x y j 0)
-
 -- the numbers of a header, as a struct of u16, u32 and three bytes holds them
 pub record Sized (h : Header) (a : List ℕ) : Type 0 where
   pub reply : length a ≡ replyAddressSize (h .instruction)
@@ -59,7 +52,7 @@ module _ (h : Header) (a : List ℕ) (s : Sized h a) where
       rw (
         getD-at x (h .initiator) (drop 1 z) 0 at l,
         part-behind x z at 1 2 l,
-        getD-behind x z at 3 l,
+        part-at-behind x z at 3 l,
         part-behind x z at 4 4 l,
         part-behind x z at 8 3 l,
         number-bytes 2 (h .transaction) (s .transaction),
@@ -99,17 +92,6 @@ module _ (h : Header) (a : List ℕ) (s : Sized h a) where
 
 -- ---- from bytes to parts and back
 
-digit : (p : List ℕ) (k : ℕ) → Digits 256 p → getD p k 0 < 256
-digit [] k d = omega arith
-digit (x ∷ p) zero d = d .0
-digit (x ∷ p) (suc k) d = digit p k (d .1)
-
-split : (from m k to : ℕ) (p : List ℕ) → from + m ≡ to → part from (m + k) p ≡ part from m p ++ part to k p
-split from m k to p e = rw (← e) (take-add m k (drop from p) ∙ ap (λ (l : List ℕ). part from m p ++ take k l) (drop-drop m from p))
-
-first : (from k to : ℕ) (p : List ℕ) → from + 1 ≡ to → to ≤ length p → part from (1 + k) p ≡ getD p from 0 ∷ part to k p
-first from k to p e h = split from 1 k to p e ∙ ap (λ (l : List ℕ). l ++ part to k p) (part-bytes from 0 p (omega arith))
-
 rear-of : {b c d b' c' d' : List ℕ} (x y : ℕ) → b ≡ b' → c ≡ c' → d ≡ d' → (x ∷ b) ++ (y ∷ c) ++ d ≡ (x ∷ b') ++ (y ∷ c') ++ d'
 rear-of x y e f g = rw (e, f, g)
 
@@ -123,10 +105,10 @@ module _ (p : List ℕ) (bytes : Digits 256 p) (at : ℕ) (four : 4 ≤ at) (who
       (bytes-part p (at + 1) 2 bytes (omega arith))
       (bytes-part p (at + 4) 4 bytes (omega arith))
       (bytes-part p (at + 8) 3 bytes (omega arith))
-      ∙ sym (split at 8 3 (at + 8) p refl
-      ∙ ap (λ (l : List ℕ). l ++ part (at + 8) 3 p) (split at 3 5 (at + 3) p refl)
-      ∙ ap (λ (l : List ℕ). l ++ part (at + 3) 5 p ++ part (at + 8) 3 p) (first at 2 (at + 1) p refl (omega arith))
-      ∙ ap (λ (l : List ℕ). (getD p at 0 ∷ part (at + 1) 2 p) ++ l ++ part (at + 8) 3 p) (first (at + 3) 4 (at + 4) p (omega arith) (omega arith)))
+      ∙ sym (part-split at 8 3 (at + 8) p refl
+      ∙ ap (λ (l : List ℕ). l ++ part (at + 8) 3 p) (part-split at 3 5 (at + 3) p refl)
+      ∙ ap (λ (l : List ℕ). l ++ part (at + 3) 5 p ++ part (at + 8) 3 p) (part-first at 2 (at + 1) p refl (omega arith))
+      ∙ ap (λ (l : List ℕ). (getD p at 0 ∷ part (at + 1) 2 p) ++ l ++ part (at + 8) 3 p) (part-first (at + 3) 4 (at + 4) p (omega arith) (omega arith)))
 
   body-parts : frontOf (partsAt p at) ++ part 4 (at - 4) p ++ rearOf (partsAt p at) ≡ part 0 (at + 11) p
   body-parts =
@@ -134,7 +116,7 @@ module _ (p : List ℕ) (bytes : Digits 256 p) (at : ℕ) (four : 4 ≤ at) (who
       let a = part 4 (at - 4) p in
       ap (λ (l : List ℕ). l ++ a ++ rearOf (partsAt p at)) front-parts
       ∙ ap (λ (l : List ℕ). part 0 4 p ++ a ++ l) rear-parts
-      ∙ (sym (split 0 at 11 at p (omega arith) ∙ ap (λ (l : List ℕ). l ++ part at 11 p) (ap (λ (k : ℕ). part 0 k p) (sym e) ∙ split 0 4 (at - 4) 4 p refl)))
+      ∙ (sym (part-split 0 at 11 at p (omega arith) ∙ ap (λ (l : List ℕ). l ++ part at 11 p) (ap (λ (k : ℕ). part 0 k p) (sym e) ∙ part-split 0 4 (at - 4) 4 p refl)))
 
   -- what ends in its own CRC is the header of its parts and its reply address
   pub parts-header : crc (part 0 (at + 12) p) ≡ 0 → headerOf (partsAt p at) (part 4 (at - 4) p) ≡ part 0 (at + 12) p
@@ -144,7 +126,7 @@ module _ (p : List ℕ) (bytes : Digits 256 p) (at : ℕ) (four : 4 ≤ at) (who
       let b = part 0 (at + 11) p in
       let next : at + 12 ≡ at + 11 + 1 = omega arith in
       let e : part 0 (at + 12) p ≡ b ++ (k ∷ []) =
-      ap (λ (n : ℕ). part 0 n p) next ∙ split 0 (at + 11) 1 (at + 11) p (omega arith)
+      ap (λ (n : ℕ). part 0 n p) next ∙ part-split 0 (at + 11) 1 (at + 11) p (omega arith)
       ∙ ap (λ (l : List ℕ). b ++ l) (part-bytes (at + 11) 0 p (omega arith)) in
-      let own : k ≡ crc b = crc-only b k (digit p (at + 11) bytes) (sym (ap crc e) ∙ sum) in
+      let own : k ≡ crc b = crc-only b k (digits-at 256 p (at + 11) (omega arith) bytes) (sym (ap crc e) ∙ sum) in
       ap withCrc body-parts ∙ ap (λ (n : ℕ). b ++ (n ∷ [])) (sym own) ∙ sym e

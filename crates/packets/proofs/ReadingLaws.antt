@@ -61,27 +61,21 @@ module _ (q : ℕ) (p : List ℕ) (n : ℕ) where
     other : (m : ℕ) → m < 0xF0 → q ≡ m → ⊥
     other m l e = omega arith
 
-    pub protocol-time : q ≡ n → timePacket ≡ readProtocol q p n
+    in-range : readProtocol q p n ≡ cond (eqb q n) timePacket (refused UnknownProtocol)
     unfolding readProtocol
-    protocol-time e = rw (
+    in-range = rw (
       ne-eqb q 0x01 (other 0x01 (omega arith)),
       ne-eqb q 0x03 (other 0x03 (omega arith)),
       ne-eqb q 0x00 (other 0x00 (omega arith)),
       le-leb 0xF0 q h,
       le-leb q 0xFE k,
-      eq-eqb q n e,
     )
 
+    pub protocol-time : q ≡ n → timePacket ≡ readProtocol q p n
+    protocol-time e = rw (in-range, eq-eqb q n e)
+
     pub protocol-other-number : (q ≡ n → ⊥) → refused UnknownProtocol ≡ readProtocol q p n
-    unfolding readProtocol
-    protocol-other-number e = rw (
-      ne-eqb q 0x01 (other 0x01 (omega arith)),
-      ne-eqb q 0x03 (other 0x03 (omega arith)),
-      ne-eqb q 0x00 (other 0x00 (omega arith)),
-      le-leb 0xF0 q h,
-      le-leb q 0xFE k,
-      ne-eqb q n e,
-    )
+    protocol-other-number e = rw (in-range, ne-eqb q n e)
 
   module _ (x : q ≡ 0x00 → ⊥) (y : q ≡ 0x01 → ⊥) (z : q ≡ 0x03 → ⊥) where
     pub protocol-below : q < 0xF0 → refused UnknownProtocol ≡ readProtocol q p n
