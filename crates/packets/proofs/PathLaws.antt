@@ -1,6 +1,6 @@
 -- Laws of paths: what becomes of a reply address, that its twelve bytes and its count keep its path, and when two kept paths are one.
 use mathlib.Core.Path.{_≡_, refl, sym, ap, _∙_}
-use mathlib.Core.Bool.{Bool, true, false, _&&_, false≢true}
+use mathlib.Core.Bool.{true, false, false≢true}
 use mathlib.Core.List.{List, [], _∷_, _++_, map, append-nil}
 use Prim.Native.Nat.{ℕ, zero, suc, _+_, _-_, _<_, _≤_}
 use native.Mathlib.Omega.{arith}
@@ -161,16 +161,6 @@ module _ (a b : List ℕ) (i : ℕ) (f : i < length a) (g : i < length b) where
 
 pub same-ends : (a b : List ℕ) (i : ℕ) → length a ≤ i → length b ≤ i → sameBytes (drop i a) (drop i b) ≡ true
 same-ends a b i f g = rw (drop-of-length-le a f, drop-of-length-le b g)
-
-pub same-lengths : (a b : List ℕ) → (length a ≡ length b → ⊥) → sameBytes a b ≡ false
-same-lengths [] [] h = absurd (h refl)
-same-lengths [] (y ∷ b) h = refl
-same-lengths (x ∷ a) [] h = refl
-same-lengths (x ∷ a) (y ∷ b) h = go (eqb x y) (same-lengths a b (λ e. h (ap suc e)))
-  where
-    go : (t : Bool) → sameBytes a b ≡ false → (t && sameBytes a b) ≡ false
-    go true e = e
-    go false e = refl
 
 same-bytes : (a b : List ℕ) → sameBytes a b ≡ true → a ≡ b
 same-bytes [] [] h = refl

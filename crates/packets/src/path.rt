@@ -38,7 +38,9 @@ impl Path {
     pub fn same(self, other: Path) -> bool
         ensures { λ t. ⌜ t ≡ samePath self other ⌝ }
     {
-        if !same_bytes(&self.bytes, &other.bytes) {
+        let mine = self.bytes;
+        let its = other.bytes;
+        if !same_bytes(mine, its) {
             return false;
         }
         self.count == other.count
@@ -72,14 +74,11 @@ fn path_count(address: &[u8]) -> usize
     n - zeros
 }
 
-fn same_bytes(a: &[u8], b: &[u8]) -> bool
-    ensures { λ t. ⌜ t ≡ sameBytes (now (a .entry)) (now (b .entry)) ⌝ }
+fn same_bytes(a: [u8; 12], b: [u8; 12]) -> bool
+    ensures { λ t. ⌜ t ≡ sameBytes a b ⌝ }
 {
-    if a.len() != b.len() {
-        return false;
-    }
     let mut i = 0;
-    while i < a.len() {
+    while i < 12 {
         if a[i] != b[i] {
             return false;
         }

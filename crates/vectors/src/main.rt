@@ -1,5 +1,6 @@
-// Outside vectors and edge cases, run through the proved crates. Each line tells what came out; the file `stdout` beside
-// this folder holds what must: for the vectors what the papers say, for the edges what the definitions do.
+// Outside vectors and edge cases, run through the proved crates. Most are lines of the file `stdin` beside this folder. Each line that is
+// printed tells what came out; the file `stdout` holds what must: for the vectors what the papers say, for the edges what the
+// definitions do.
 mod annex;
 mod commands;
 mod edges;

@@ -15,7 +15,7 @@ returns c = rw (sym (c .before .same-bytes .ensures) ∙ not-true _ (c .if1 .tak
 
 returns-2 : tie.Need-returns-2
 unfolding samePath
-returns-2 c = rw (sym (c .before .same-bytes .ensures) ∙ not-false _ (c .if1 .left))
+returns-2 c = rw (sym (c .before .before .before .same-bytes .ensures) ∙ not-false _ (c .before .before .if1 .left))
 
 pub same-spec : {M : Type 1} → statement M
 same-spec = tie.close (tie.spec same-bytes-requires returns returns-2)
