@@ -1,0 +1,167 @@
+-- Laws of decisions: what a command that got past the checks has shown.
+use mathlib.Core.Path.{_≡_, refl, sym, _∙_, ap}
+use mathlib.Core.Bool.{true, false, cond, not, _&&_, _||_}
+use mathlib.Core.List.{List}
+use Prim.Native.Nat.{ℕ, _+_, _-_, _/_, _%_, _^_, _≤_}
+use native.Mathlib.Omega.{arith}
+use borrow.Author.Tests.{leb-true, ltb-false, eqb-true, eq-eqb, ne-eqb, not-false}
+use lib.Dec.{eqb, leb, ltb}
+use lib.ListN.{length, drop, length-drop}
+use lib.Seq.{take-all}
+use native.Mathlib.Nat.{le-of-eq}
+use Rattle.octets.specs.Places.{part}
+use Rattle.octets.specs.Crc.{crc}
+use Rattle.octets.proofs.PlaceLaws.{first-true, second-true}
+use Rattle.packets.specs.Instruction.{codeOf, isWrite, isVerified, headerSize}
+use Rattle.packets.specs.Reading.{isEop}
+use Rattle.packets.specs.declared.instruction.Kind.{Kind}
+use Rattle.packets.specs.declared.instruction.Kind.the-variants.{Unused, Read, ReadModifyWrite, Write}
+use Rattle.packets.specs.declared.header.Header.{Header}
+use Rattle.packets.specs.declared.path.Path.{Path}
+use Rattle.packets.specs.declared.reading.End.{End}
+use Rattle.unit.specs.Some.{some}
+use Rattle.unit.specs.Fate.{isSuccess, orElse}
+use Rattle.unit.specs.Fields.{fieldOf, named, isMissing}
+use Rattle.unit.specs.Decide.{kindIn, isRmw, isRead, openingStatus, isAuthorised, spanStatus, isFieldLength, fieldCount, namesFields, offenceIn, isAllowed, fieldsStatus}
+use Rattle.unit.specs.Decide.{headerStatus, wantedCount, dataStatus}
+use Rattle.unit.specs.Granted.{WordsThere}
+use Rattle.unit.specs.Plan.{memoryAction, fieldAction, plannedFor, decidedByData, decided}
+use Rattle.unit.specs.declared.decide.Action.{Action}
+use Rattle.unit.specs.declared.decide.Plan.{Plan}
+use Rattle.unit.specs.declared.fate.Status.{Status}
+use Rattle.unit.specs.declared.fate.Status.the-variants.{Success, DataCrc, EarlyEop, TooMuchData, EndedByEep, VerifyOverrun, NotAuthorised, RmwLength, NotOwner, NoSuchField}
+use Rattle.unit.specs.declared.windows.Windows.{Windows}
+use Rattle.unit.specs.declared.owner.Owner.{Owner}
+use Rattle.unit.specs.declared.unit.Unit.{Unit as TheUnit}
+use Rattle.unit.proofs.FateLaws.{passed, or-else}
+use Rattle.unit.proofs.FieldLaws.{one-field}
+
+-- ---- what the header decides
+
+pub memory-passed : (u : TheUnit) (h : Header) (path : Path) (link : ℕ) → h .protocol ≡ 0x01 → isSuccess (headerStatus u h path link) ≡ true
+    → isSuccess (spanStatus (u .windows) h) ≡ true
+unfolding headerStatus
+memory-passed u h path link e s =
+    or-else (openingStatus h (u .key) (u .logical)) (spanStatus (u .windows) h) (rw (eq-eqb (h .protocol) 0x01 e) at s) .1
+
+pub fields-passed : (u : TheUnit) (h : Header) (path : Path) (link : ℕ) → (h .protocol ≡ 0x01 → ⊥) → isSuccess (headerStatus u h path link) ≡ true
+    → isSuccess (fieldsStatus (u .owner) h path link) ≡ true
+unfolding headerStatus
+fields-passed u h path link e s =
+    or-else (openingStatus h 0x00 0xFE) (fieldsStatus (u .owner) h path link) (rw (ne-eqb (h .protocol) 0x01 e) at s) .1
+
+-- a span that passed is one window's, with the right
+pub span-passed : (w : Windows) (h : Header) → isSuccess (spanStatus w h) ≡ true
+    → ((isRmw (kindIn h) && (ltb 8 (h .length) || not (eqb (h .length % 2) 0))) ≡ false) × (isAuthorised w h ≡ true)
+unfolding spanStatus
+span-passed w h s =
+    let i = h .instruction in
+    let last = cond (isWrite i && isVerified i && ltb 1024 (h .length)) VerifyOverrun Success in
+    let first = passed (isRmw (kindIn h) && (ltb 8 (h .length) || not (eqb (h .length % 2) 0))) RmwLength
+    (cond (not (isAuthorised w h)) NotAuthorised last) refl s in
+    (first .0, not-false (isAuthorised w h) (passed (not (isAuthorised w h)) NotAuthorised last refl (first .1) .0))
+
+-- fields that passed are named as they must be, are in our table, offend nothing, and are the sender's to change
+pub named-passed : (o : Owner) (h : Header) (path : Path) (link : ℕ) → isSuccess (fieldsStatus o h path link) ≡ true
+    → (namesFields h ≡ true)
+    × (some isMissing (named (h .address) (fieldCount (kindIn h) (h .length))) ≡ false)
+    × (isSuccess (offenceIn (kindIn h) (h .address) (fieldCount (kindIn h) (h .length))) ≡ true)
+    × (isAllowed (kindIn h) o (h .initiator) path link ≡ true)
+unfolding fieldsStatus
+named-passed o h path link s =
+    let n = fieldCount (kindIn h) (h .length) in
+    let missing = some isMissing (named (h .address) n) in
+    let offence = offenceIn (kindIn h) (h .address) n in
+    let allowed = isAllowed (kindIn h) o (h .initiator) path link in
+    let last = cond (not allowed) NotOwner Success in
+    let one = passed (not (namesFields h)) NotAuthorised (cond missing NoSuchField (orElse offence last)) refl s in
+    let two = passed missing NoSuchField (orElse offence last) refl (one .1) in
+    let three = or-else offence last (two .1) in
+    let four = passed (not allowed) NotOwner Success refl (three .1) in
+    (not-false (namesFields h) (one .0), two .0, three .0, not-false allowed (four .0))
+
+pub names-length : (h : Header) → namesFields h ≡ true → isFieldLength (kindIn h) (h .length) ≡ true
+unfolding namesFields
+names-length h e =
+    let c = codeOf (h .instruction) in
+    let codes = eqb c 0b1111 || eqb c 0b0011 || eqb c 0b0111 in
+    let n = isFieldLength (kindIn h) (h .length) in
+    second-true (eqb (h .extended) 0 && codes) n
+    (first-true (eqb (h .extended) 0 && codes && n) (leb (fieldOf (h .address) + fieldCount (kindIn h) (h .length)) (2 ^ 14)) e)
+
+-- a write to fields that passed has one word
+pub one-word : (o : Owner) (h : Header) (path : Path) (link : ℕ) → kindIn h ≡ Write → isSuccess (fieldsStatus o h path link) ≡ true → h .length ≡ 4
+one-word o h path link k s =
+    let f = named-passed o h path link s in
+    let offence = rw k at (f .2) in
+    let one = one-field (h .address) (h .length / 4) offence in
+    let l = rw k at (names-length h (f .0)) in
+    let four = first-true (eqb (h .length % 4) 0 && leb 4 (h .length)) (leb (h .length) 64) l in
+    let multiple = eqb-true (h .length % 4) 0 (first-true (eqb (h .length % 4) 0) (leb 4 (h .length)) four) in
+    let least = leb-true 4 (h .length) (second-true (eqb (h .length % 4) 0) (leb 4 (h .length)) four) in
+    omega (arith, one, multiple, least)
+
+-- ---- what the data decide
+
+pub data-passed : (bytes : List ℕ) (wanted : ℕ) (end : End) → isSuccess (dataStatus bytes wanted end) ≡ true
+    → (isEop end ≡ true) × (length bytes ≡ wanted) × (crc bytes ≡ 0)
+unfolding dataStatus
+data-passed bytes wanted end s =
+    let last = cond (not (eqb (crc bytes) 0)) DataCrc Success in
+    let more = cond (ltb wanted (length bytes)) TooMuchData last in
+    let one = passed (not (isEop end)) EndedByEep (cond (ltb (length bytes) wanted) EarlyEop more) refl s in
+    let two = passed (ltb (length bytes) wanted) EarlyEop more refl (one .1) in
+    let three = passed (ltb wanted (length bytes)) TooMuchData last refl (two .1) in
+    let four = passed (not (eqb (crc bytes) 0)) DataCrc Success refl (three .1) in
+    let a = ltb-false (length bytes) wanted (two .0) in
+    let b = ltb-false wanted (length bytes) (three .0) in
+    (not-false (isEop end) (one .0), omega (arith, a, b), eqb-true (crc bytes) 0 (not-false (eqb (crc bytes) 0) (four .0)))
+
+-- the words of a swap and of a write to a field are there
+pub words-there : (h : Header) (p : List ℕ) (from : ℕ) (end : End) → from ≤ length p → namesFields h ≡ true
+    → isSuccess (dataStatus (drop from p) (wantedCount h) end) ≡ true → WordsThere (kindIn h) from (length p)
+unfolding wantedCount
+words-there h p from end whole f s =
+    let n : length (drop from p) ≡ wantedCount h = data-passed (drop from p) (wantedCount h) end s .1 in
+    let l = length-drop from p in
+    go (kindIn h) (names-length h f) (sym l ∙ n)
+  where
+    go : (kind : Kind) → isFieldLength kind (h .length) ≡ true → length p - from ≡ cond (isRead kind) 0 (h .length + 1) → WordsThere kind from (length p)
+    go Unused e m = tt
+    go Read e m = tt
+    go ReadModifyWrite e m = let l = eqb-true (h .length) 8 e in omega (arith, whole, l, m)
+    go Write e m =
+        let l = leb-true 4 (h .length)
+        (second-true (eqb (h .length % 4) 0) (leb 4 (h .length)) (first-true (eqb (h .length % 4) 0 && leb 4 (h .length)) (leb (h .length) 64) e)) in
+        omega (arith, whole, l, m)
+
+-- ---- both halves, from the pieces that the code works out
+
+-- a part up to the end
+rest-of : (p : List ℕ) (from : ℕ) → part from (length p - from) p ≡ drop from p
+rest-of p from = take-all (length p - from) (drop from p) (le-of-eq (length-drop from p))
+
+module _ (u : TheUnit) (h : Header) (path : Path) (p : List ℕ) (end : End) (link room : ℕ) {first second : Status} {from wanted : ℕ}
+    (header : first ≡ headerStatus u h path link) (accepted : isSuccess first ≡ true) (size : from ≡ headerSize (h .instruction))
+    (wants : wanted ≡ wantedCount h) (status : second ≡ dataStatus (part from (length p - from) p) wanted end) where
+  by-data : second ≡ dataStatus (drop (headerSize (h .instruction)) p) (wantedCount h) end
+  by-data = status ∙ ap (λ (b : List ℕ). dataStatus b wanted end) (rest-of p from) ∙ rw (size, wants)
+
+  both : decidedByData h path p second room ≡ decided u h path p end link room
+  unfolding decided
+  both = rw (← header, accepted, ← by-data)
+
+  pub decided-memory : {action : Action} {plan : Plan} → h .protocol ≡ 0x01 → action ≡ memoryAction h second from (length p - from)
+      → plan ≡ plannedFor h path second action room → plan ≡ decided u h path p end link room
+  unfolding decidedByData
+  decided-memory e a q = q ∙ rw (a, size) (rw (eq-eqb (h .protocol) 0x01 e) at both)
+
+  pub decided-field : {action : Action} {plan : Plan} → (h .protocol ≡ 0x01 → ⊥) → action ≡ fieldAction h second p from
+      → plan ≡ plannedFor h path second action room → plan ≡ decided u h path p end link room
+  unfolding decidedByData
+  decided-field e a q = q ∙ rw (a, size) (rw (ne-eqb (h .protocol) 0x01 e) at both)
+
+  pub decided-words : (h .protocol ≡ 0x01 → ⊥) → from ≤ length p → isSuccess second ≡ true → WordsThere (kindIn h) from (length p)
+  decided-words e whole s =
+      words-there h p from end whole (named-passed (u .owner) h path link (fields-passed u h path link e (rw header at accepted)) .0)
+      (rw (by-data, ← size) at s)

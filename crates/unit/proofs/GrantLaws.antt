@@ -1,0 +1,145 @@
+-- Laws of plans: the places that a planned action speaks of are there.
+use mathlib.Core.Path.{_≡_, refl, sym, _∙_}
+use mathlib.Core.Bool.{Bool, true, false, cond, not, _&&_, false≢true}
+use mathlib.Core.List.{List, [], _∷_}
+use Prim.Native.Nat.{ℕ, _+_, _-_, _/_, _%_, _^_, _≤_, min}
+use native.Mathlib.Omega.{arith}
+use borrow.Author.Tests.{leb-true, ltb-false}
+use lib.Dec.{eqb, leb}
+use lib.ListN.{length, drop, length-drop}
+use Rattle.octets.proofs.PlaceLaws.{first-true, second-true}
+use Rattle.packets.specs.Instruction.{isIncrementing, isVerified, headerSize}
+use Rattle.packets.specs.declared.instruction.Kind.{Kind}
+use Rattle.packets.specs.declared.instruction.Kind.the-variants.{Unused, Read, ReadModifyWrite, Write}
+use Rattle.packets.specs.declared.header.Header.{Header}
+use Rattle.packets.specs.declared.path.Path.{Path}
+use Rattle.packets.specs.declared.reading.End.{End}
+use Rattle.unit.specs.Some.{some}
+use Rattle.unit.specs.Fate.{isSuccess}
+use Rattle.unit.specs.Windows.{hasRight, meets, used}
+use Rattle.unit.specs.Fields.{fieldOf}
+use Rattle.unit.specs.Usable.{usableUnit, usable}
+use Rattle.unit.specs.Decide.{kindIn, isRmw, isRead, spanSize, isAuthorised, fieldCount, isFieldLength, headerStatus, wantedCount, dataStatus}
+use Rattle.unit.specs.Plan.{actionOf, memoryAction, fieldActionOf, fieldAction, decided}
+use Rattle.unit.specs.Granted.{Granted}
+use Rattle.unit.specs.declared.fate.Status.{Status}
+use Rattle.unit.specs.declared.windows.Window.{Window}
+use Rattle.unit.specs.declared.windows.Question.the-variants.{EndsPast, Allows}
+use Rattle.unit.specs.declared.decide.Action.the-variants.{Nothing, ReadMemory, RepeatByte, Store, StoreLast, Combine}
+use Rattle.unit.specs.declared.unit.Unit.{Unit as TheUnit}
+use Rattle.unit.proofs.FieldLaws.{named-last}
+use Rattle.unit.proofs.PlanLaws.{decided-has}
+use Rattle.unit.proofs.DecideLaws.{memory-passed, fields-passed, span-passed, named-passed, names-length, data-passed}
+
+-- ---- a span that a window holds is in memory, where no window ends past it
+
+holds-room : (kind : Kind) (at size n : ℕ) (w : Window) → meets (Allows kind at size) w ≡ true → meets (EndsPast n) w ≡ false → at + size ≤ n
+holds-room kind at size n w a e =
+    let held = second-true (leb (w .start) at) (leb (at + size) (w .end)) (first-true (leb (w .start) at && leb (at + size) (w .end)) (hasRight kind w) a) in
+    let x = leb-true (at + size) (w .end) held in
+    let y = ltb-false n (w .end) e in
+    omega (arith, x, y)
+
+pub window-room : (kind : Kind) (at size n : ℕ) (ws : List Window)
+    → some (meets (Allows kind at size)) ws ≡ true → some (meets (EndsPast n)) ws ≡ false → at + size ≤ n
+window-room kind at size n [] a e = absurd (false≢true a)
+window-room kind at size n (w ∷ ws) a e =
+    go (meets (Allows kind at size) w) (meets (EndsPast n) w) refl refl (window-room kind at size n ws)
+  where
+    Rest : Type 0
+    Rest = some (meets (Allows kind at size)) ws ≡ true → some (meets (EndsPast n)) ws ≡ false → at + size ≤ n
+
+    go : (s t : Bool) → meets (Allows kind at size) w ≡ s → meets (EndsPast n) w ≡ t → Rest → at + size ≤ n
+    go s true f g rest = absurd (false≢true (sym e ∙ rw g))
+    go true false f g rest = holds-room kind at size n w f g
+    go false false f g rest = rest (rw f at a) (rw g at e)
+
+pub usable-windows : (u : TheUnit) (n : ℕ) → usable u n ≡ true → some (meets (EndsPast n)) (used (u .windows)) ≡ false
+unfolding usable
+usable-windows u n e =
+    let past = some (meets (EndsPast n)) (used (u .windows)) in
+    let all = first-true (leb 1 n && leb n 65536 && not past) (usableUnit u) e in
+    not-true' past (second-true (leb 1 n && leb n 65536) (not past) all)
+  where
+    not-true' : (b : Bool) → not b ≡ true → b ≡ false
+    not-true' true f = absurd (false≢true f)
+    not-true' false f = refl
+
+pub span-room : (u : TheUnit) (h : Header) (n : ℕ) → usable u n ≡ true → isAuthorised (u .windows) h ≡ true → h .address + spanSize h ≤ n
+unfolding isAuthorised
+span-room u h n e a =
+    let ws = used (u .windows) in
+    let asked = some (meets (Allows (kindIn h) (h .address) (spanSize h))) ws in
+    window-room (kindIn h) (h .address) (spanSize h) n ws (second-true (eqb (h .extended) 0) asked a) (usable-windows u n e)
+
+-- ---- the actions, kind by kind
+
+module _ (h : Header) (status : Status) (from k p n : ℕ) (ends : from + k ≡ p) where
+  read-granted : (t s : Bool) → isIncrementing (h .instruction) ≡ s
+      → h .address + cond s (h .length) (min (h .length) 1) ≤ n
+      → Granted (cond t (cond s (ReadMemory (h .address) (h .length)) (RepeatByte (h .address) (h .length))) Nothing) p n
+  read-granted true true e r = (r, tt)
+  read-granted true false e r = (tt, tt)
+  read-granted false s e r = (tt, tt)
+
+  rmw-granted : (t : Bool) → (t ≡ true → k ≡ h .length + 1) → h .address + h .length / 2 ≤ n
+      → Granted (cond t (Combine (h .address) from (h .length / 2)) Nothing) p n
+  rmw-granted true e r = let l = e refl in (r, (r, omega (arith, ends, l)))
+  rmw-granted false e r = (tt, tt)
+
+  write-granted : (t s : Bool) → h .address + cond s (h .length) (min (h .length) 1) ≤ n
+      → Granted (cond t Nothing (cond s (Store (h .address) from (min k (h .length))) (StoreLast (h .address) from (min k (h .length))))) p n
+  write-granted true s r = (tt, tt)
+  write-granted false true r = (tt, (omega (arith, r), omega (arith, ends)))
+  write-granted false false r = (tt, (omega (arith, r), omega (arith, ends)))
+
+  memory-granted : (kind : Kind) → (isSuccess status ≡ true → k ≡ cond (isRead kind) 0 (h .length + 1))
+      → h .address + cond (isRmw kind) (h .length / 2) (cond (isIncrementing (h .instruction)) (h .length) (min (h .length) 1)) ≤ n
+      → Granted (actionOf kind h status from k) p n
+  memory-granted Unused e r = (tt, tt)
+  memory-granted Read e r = read-granted (isSuccess status) (isIncrementing (h .instruction)) refl r
+  memory-granted ReadModifyWrite e r = rmw-granted (isSuccess status) e r
+  memory-granted Write e r = write-granted (isVerified (h .instruction) && not (isSuccess status)) (isIncrementing (h .instruction)) r
+
+fields-granted : (kind : Kind) (h : Header) (p : List ℕ) (from size n : ℕ) → isFieldLength kind (h .length) ≡ true
+    → fieldOf (h .address) + fieldCount kind (h .length) ≤ 2 ^ 14 → Granted (fieldActionOf kind h p from) size n
+fields-granted Unused h p from size n e r = (tt, tt)
+fields-granted Read h p from size n e r =
+    let l = leb-true (h .length) 64 (second-true (eqb (h .length % 4) 0 && leb 4 (h .length)) (leb (h .length) 64) e) in
+    ((omega (arith, l), r), tt)
+fields-granted ReadModifyWrite h p from size n e r = (tt, tt)
+fields-granted Write h p from size n e r = (tt, tt)
+
+-- ---- the plan
+
+-- where the header allows the command
+module _ (u : TheUnit) (h : Header) (path : Path) (p : List ℕ) (end : End) (link n : ℕ) (works : usable u n ≡ true)
+    (whole : headerSize (h .instruction) ≤ length p) where
+  abbrev from : ℕ
+  from = headerSize (h .instruction)
+
+  abbrev status : Status
+  status = dataStatus (drop from p) (wantedCount h) end
+
+  pub accepted-memory : h .protocol ≡ 0x01 → isSuccess (headerStatus u h path link) ≡ true
+      → Granted (memoryAction h status from (length p - from)) (length p) n
+  unfolding spanSize wantedCount
+  accepted-memory e s =
+      let span = span-room u h n works (span-passed (u .windows) h (memory-passed u h path link e s) .1) in
+      memory-granted h status from (length p - from) (length p) n (omega arith) (kindIn h)
+      (λ t. sym (length-drop from p) ∙ data-passed (drop from p) (wantedCount h) end t .1) span
+
+  pub accepted-field : (h .protocol ≡ 0x01 → ⊥) → isSuccess (headerStatus u h path link) ≡ true → Granted (fieldAction h status p from) (length p) n
+  accepted-field e s =
+      let f = named-passed (u .owner) h path link (fields-passed u h path link e s) .0 in
+      let g = fields-granted (kindIn h) h p from (length p) n (names-length h f) (named-last h f) in
+      either (isSuccess status) g
+    where
+      either : (t : Bool) → Granted (fieldActionOf (kindIn h) h p from) (length p) n
+          → Granted (cond t (fieldActionOf (kindIn h) h p from) Nothing) (length p) n
+      either true g = g
+      either false g = (tt, tt)
+
+  pub granted : (room : ℕ) → Granted (decided u h path p end link room .action) (length p) n
+  granted room =
+      decided-has u h path p end link room (λ s a. Granted a (length p) n) (λ s. (tt, tt)) accepted-memory accepted-field

@@ -1,0 +1,13 @@
+pub mod FateLaws
+pub mod SomeLaws
+pub mod WindowLaws
+pub mod FieldLaws
+pub mod DecideLaws
+pub mod ActLaws
+pub mod PlanLaws
+pub mod GrantLaws
+pub mod MemoryLaws
+pub mod ReplyLaws
+pub mod CallLaws
+pub mod UsableLaws
+pub mod Examples

@@ -1,0 +1,216 @@
+-- Laws of replies: what the plan counts is what is written. Where the fate is 20, all of the reply stands in the buffer.
+use mathlib.Core.Path.{_≡_, refl, sym, _∙_, ap}
+use mathlib.Core.Bool.{Bool, true, false, cond, not, _&&_, _||_, false≢true}
+use mathlib.Core.List.{List}
+use Prim.Native.Nat.{ℕ, _+_, _-_, _/_, _%_, _^_, _<_, _≤_}
+use native.Mathlib.Omega.{arith}
+use borrow.Author.Tests.{lt-ltb, le-leb, leb-true, ltb-false, eqb-true, eq-eqb}
+use lib.Dec.{eqb, leb, ltb}
+use lib.ListN.{length, drop, getD, length-replicate}
+use Rattle.octets.specs.Places.{placed}
+use Rattle.octets.proofs.PlaceLaws.{length-part, first-true, second-true}
+use Rattle.packets.specs.Instruction.{typeOf, codeOf, kindOf, isWrite, isIncrementing, wantsReply, headerSize}
+use Rattle.packets.specs.Path.{pathBytes}
+use Rattle.packets.specs.Reply.{carriesData, carriedCount, replyOf, replyLength, replied}
+use Rattle.packets.specs.declared.instruction.Kind.{Kind}
+use Rattle.packets.specs.declared.instruction.Kind.the-variants.{Unused, Read, ReadModifyWrite, Write}
+use Rattle.packets.specs.declared.header.Header.{Header}
+use Rattle.packets.specs.declared.path.Path.{Path}
+use Rattle.packets.specs.declared.reading.End.{End}
+use Rattle.packets.proofs.ReplyLaws.{length-reply}
+use Rattle.unit.specs.Fate.{byteOf, isSuccess, fateNumber}
+use Rattle.unit.specs.Usable.{usable}
+use Rattle.unit.specs.Fields.{named, valuesOf}
+use Rattle.unit.specs.Decide.{kindIn, isUnused, isRmw, openingStatus, spanStatus, isFieldLength, fieldsStatus, headerStatus, wantedCount, dataStatus}
+use Rattle.unit.specs.Plan.{actionOf, memoryAction, fieldActionOf, fieldAction, replyCount, plannedFor, decided}
+use Rattle.unit.specs.Act.{dataFor, repliedTo}
+use Rattle.unit.specs.Granted.{Readable}
+use Rattle.unit.specs.declared.fate.Status.{Status}
+use Rattle.unit.specs.declared.fate.Status.the-variants.{Success, UnusedCode, WrongKey, WrongAddress}
+use Rattle.unit.specs.declared.fate.Fate.the-variants.{NoRoom, NotObeyed, Obeyed, Replied}
+use Rattle.unit.specs.declared.decide.Action.{Action}
+use Rattle.unit.specs.declared.decide.Action.the-variants.{Nothing, ReadMemory, RepeatByte}
+use Rattle.unit.specs.declared.decide.Plan.{Plan}
+use Rattle.unit.specs.declared.unit.Unit.{Unit as TheUnit}
+use Rattle.unit.proofs.FateLaws.{passed, or-else}
+use Rattle.unit.proofs.FieldLaws.{length-named, length-fields}
+use Rattle.unit.proofs.DecideLaws.{fields-passed, named-passed, names-length}
+use Rattle.unit.proofs.PlanLaws.{decided-is}
+use Rattle.unit.proofs.GrantLaws.{accepted-memory}
+
+-- ---- the kind and the write bit
+
+abbrev rank : Kind → ℕ
+rank Unused = 0
+rank Read = 1
+rank ReadModifyWrite = 2
+rank Write = 3
+
+-- only codes with the write bit write
+pub write-bit : (h : Header) → kindIn h ≡ Write → isWrite (h .instruction) ≡ true
+unfolding kindOf
+write-bit h e = go (eqb c 0b0010 || eqb c 0b0011) (eqb c 0b0111) (leb 0b1000 c) refl (ap rank e)
+  where
+    c : ℕ
+    c = codeOf (h .instruction)
+
+    go : (s t w : Bool) → leb 0b1000 c ≡ w → rank (cond s Read (cond t ReadModifyWrite (cond w Write Unused))) ≡ 3 → isWrite (h .instruction) ≡ true
+    go true t w f r = absurd (omega (arith, r))
+    go false true w f r = absurd (omega (arith, r))
+    go false false false f r = absurd (omega (arith, r))
+    go false false true f r = let l = leb-true 0b1000 c f in eq-eqb (h .instruction .byte / 2 ^ 5 % 2) 1 (omega (arith, l))
+
+-- a header that was accepted has a code that is used
+used-code : (h : Header) (key logical : ℕ) → isSuccess (openingStatus h key logical) ≡ true → isUnused (kindIn h) ≡ false
+unfolding openingStatus
+used-code h key logical s =
+    let other = not (eqb (typeOf (h .instruction)) 1) in
+    let rest = cond (not (eqb (h .key) key)) WrongKey (cond (not (eqb (h .target) logical) && not (eqb (h .target) 0xFE)) WrongAddress Success) in
+    second other (isUnused (kindIn h)) (passed (other || isUnused (kindIn h)) UnusedCode rest refl s .0)
+  where
+    second : (a b : Bool) → (a || b) ≡ false → b ≡ false
+    second true b e = absurd (false≢true (sym e))
+    second false b e = e
+
+pub accepted-code : (u : TheUnit) (h : Header) (path : Path) (link : ℕ) → isSuccess (headerStatus u h path link) ≡ true → isUnused (kindIn h) ≡ false
+unfolding headerStatus
+accepted-code u h path link s = go (eqb (h .protocol) 0x01) s
+  where
+    go : (t : Bool) → isSuccess (cond t (cond (isSuccess (openingStatus h (u .key) (u .logical))) (spanStatus (u .windows) h) (openingStatus h (u .key) (u .logical)))
+        (cond (isSuccess (openingStatus h 0x00 0xFE)) (fieldsStatus (u .owner) h path link) (openingStatus h 0x00 0xFE))) ≡ true → isUnused (kindIn h) ≡ false
+    go true e = used-code h (u .key) (u .logical) (or-else (openingStatus h (u .key) (u .logical)) (spanStatus (u .windows) h) e .0)
+    go false e = used-code h 0x00 0xFE (or-else (openingStatus h 0x00 0xFE) (fieldsStatus (u .owner) h path link) e .0)
+
+-- ---- the data of an obeyed command without the write bit: L bytes, and L/2 for RMW
+
+module _ (u : TheUnit) (h : Header) (link : ℕ) (m : List ℕ) where
+  read-count : (s : Bool) → Readable (cond s (ReadMemory (h .address) (h .length)) (RepeatByte (h .address) (h .length))) (length m)
+      → length (dataFor (cond s (ReadMemory (h .address) (h .length)) (RepeatByte (h .address) (h .length))) u link m) ≡ h .length
+  unfolding dataFor
+  read-count true g = length-part (h .address) (h .length) m g
+  read-count false g = length-replicate (h .length) (getD m (h .address) 0)
+
+  memory-count : (kind : Kind) (status : Status) (from k : ℕ) → isSuccess status ≡ true → isUnused kind ≡ false → (kind ≡ Write → ⊥)
+      → Readable (actionOf kind h status from k) (length m)
+      → cond (isRmw kind) (h .length / 2) (h .length) ≡ length (dataFor (actionOf kind h status from k) u link m)
+  unfolding dataFor
+  memory-count Unused status from k e used w g = absurd (false≢true (sym used))
+  memory-count Read status from k e used w g = rw e (sym (read-count (isIncrementing (h .instruction)) (rw e at g)))
+  memory-count ReadModifyWrite status from k e used w g = rw e (sym (length-part (h .address) (h .length / 2) m (rw e at g)))
+  memory-count Write status from k e used w g = absurd (w refl)
+
+  field-count : (kind : Kind) (p : List ℕ) (from : ℕ) → isFieldLength kind (h .length) ≡ true → isUnused kind ≡ false → (kind ≡ Write → ⊥)
+      → cond (isRmw kind) (h .length / 2) (h .length) ≡ length (dataFor (fieldActionOf kind h p from) u link m)
+  unfolding dataFor
+  field-count Unused p from l used w = absurd (false≢true (sym used))
+  field-count Read p from l used w =
+      let four = eqb-true (h .length % 4) 0 (first-true (eqb (h .length % 4) 0) (leb 4 (h .length)) (first-true (eqb (h .length % 4) 0 && leb 4 (h .length)) (leb (h .length) 64) l)) in
+      let n = length-named (h .address) (h .length / 4) in
+      omega (arith, four, n, length-fields (valuesOf (u .fields) (u .owner) (u .clock .last) (u .links) link) (named (h .address) (h .length / 4)))
+  field-count ReadModifyWrite p from l used w = let eight = eqb-true (h .length) 8 l in omega (arith, eight)
+  field-count Write p from l used w = absurd (w refl)
+
+-- ---- the plan's length
+
+-- the data that are not carried do not count
+same-length : (path : Path) (h : Header) (status n k : ℕ) → (carriesData h status ≡ true → n ≡ k) → replyLength path h status n ≡ replyLength path h status k
+unfolding replyLength
+same-length path h status n k f = go (carriesData h status) refl
+  where
+    go : (t : Bool) → carriesData h status ≡ t
+        → length (pathBytes path) + cond (isWrite (h .instruction)) 8 (13 + cond t n 0) ≡ length (pathBytes path) + cond (isWrite (h .instruction)) 8 (13 + cond t k 0)
+    go true e = rw (f e)
+    go false e = refl
+
+carries-passed : (h : Header) (s : Status) → carriesData h (byteOf s) ≡ true → (isWrite (h .instruction) ≡ false) × (isSuccess s ≡ true)
+carries-passed h s e =
+    (no (isWrite (h .instruction)) (first-true (not (isWrite (h .instruction))) (isSuccess s) e), second-true (not (isWrite (h .instruction))) (isSuccess s) e)
+  where
+    no : (b : Bool) → not b ≡ true → b ≡ false
+    no true f = absurd (false≢true f)
+    no false f = refl
+
+module _ (u : TheUnit) (h : Header) (path : Path) (link : ℕ) (m : List ℕ) (room : ℕ) where
+  -- a plan that replies has counted its data, and they have room
+  abbrev Counted : Plan → Type 0
+  Counted plan =
+      fateNumber (plan .fate) ≡ 20
+      → (carriesData h (byteOf (plan .status)) ≡ true → replyCount h ≡ length (dataFor (plan .action) u link m))
+      × (plan .length ≡ replyLength path h (byteOf (plan .status)) (replyCount h))
+      × (plan .length ≤ room)
+
+  planned-counts : (s : Status) (a : Action) → (carriesData h (byteOf s) ≡ true → replyCount h ≡ length (dataFor a u link m))
+      → Counted (plannedFor h path s a room)
+  unfolding plannedFor
+  planned-counts s a f = go (wantsReply (h .instruction)) (ltb room size) (isSuccess s) refl
+    where
+      size : ℕ
+      size = replyLength path h (byteOf s) (replyCount h)
+
+      go : (t w o : Bool) → ltb room size ≡ w
+          → Counted (cond t (cond w (record { fate = NoRoom; status = s; action = Nothing; length = 0 })
+          (record { fate = Replied s; status = s; action = a; length = size }))
+          (record { fate = cond o Obeyed (NotObeyed s); status = s; action = a; length = 0 }))
+      go true true o e n = absurd (omega (arith, n))
+      go true false o e n = (f, refl, ltb-false room size e)
+      go false w true e n = absurd (omega (arith, n))
+      go false w false e n = absurd (omega (arith, n))
+
+  -- a refused command carries none
+  refused-counts : (s : Status) (a : Action) → isSuccess s ≡ false → Counted (plannedFor h path s a room)
+  refused-counts s a e = planned-counts s a (λ c. absurd (false≢true (sym e ∙ carries-passed h s c .1)))
+
+  no-write : (s : Status) → carriesData h (byteOf s) ≡ true → kindIn h ≡ Write → ⊥
+  no-write s c k = false≢true (sym (carries-passed h s c .0) ∙ write-bit h k)
+
+  pub counted : (p : List ℕ) (end : End) → usable u (length m) ≡ true → headerSize (h .instruction) ≤ length p → Counted (decided u h path p end link room)
+  unfolding replyCount
+  counted p end works whole =
+      decided-is u h path p end link room Counted
+      (λ s. refused-counts (headerStatus u h path link) Nothing s)
+      (λ e s. planned-counts status (memoryAction h status from (length p - from))
+      (λ c. memory-count u h link m (kindIn h) status from (length p - from) (carries-passed h status c .1) (accepted-code u h path link s) (no-write status c)
+      (accepted-memory u h path p end link (length m) works whole e s .0)))
+      (λ e s. planned-counts status (fieldAction h status p from) (λ c. with-fields e s c))
+    where
+      from : ℕ
+      from = headerSize (h .instruction)
+
+      status : Status
+      status = dataStatus (drop from p) (wantedCount h) end
+
+      with-fields : (h .protocol ≡ 0x01 → ⊥) → isSuccess (headerStatus u h path link) ≡ true → carriesData h (byteOf status) ≡ true
+          → cond (isRmw (kindIn h)) (h .length / 2) (h .length) ≡ length (dataFor (fieldAction h status p from) u link m)
+      with-fields e s c =
+          let f = names-length h (named-passed (u .owner) h path link (fields-passed u h path link e s) .0) in
+          rw (carries-passed h status c .1) (field-count u h link m (kindIn h) p from f (accepted-code u h path link s) (no-write status c))
+
+-- ---- the buffer
+
+-- where the fate is 20, the answer's length is that of the reply, and all of it stands at the buffer's start
+pub reply-written : (u : TheUnit) (h : Header) (path : Path) (p : List ℕ) (end : End) (link : ℕ) (m r : List ℕ)
+    → usable u (length m) ≡ true → headerSize (h .instruction) ≤ length p → h .length < 256 ^ 3
+    → fateNumber (decided u h path p end link (length r) .fate) ≡ 20
+    → (decided u h path p end link (length r) .length
+    ≡ length (replyOf path h (byteOf (decided u h path p end link (length r) .status)) (dataFor (decided u h path p end link (length r) .action) u link m)))
+    × (repliedTo (decided u h path p end link (length r)) u h path link m r
+    ≡ placed 0 (replyOf path h (byteOf (decided u h path p end link (length r) .status)) (dataFor (decided u h path p end link (length r) .action) u link m)) r)
+unfolding repliedTo replied replyCount
+reply-written u h path p end link m r works whole small n =
+    let plan = decided u h path p end link (length r) in
+    let status = byteOf (plan .status) in
+    let d = dataFor (plan .action) u link m in
+    let c = counted u h path link m (length r) p end works whole n in
+    let same = same-length path h status (replyCount h) (length d) (c .0) in
+    let few : carriedCount h status (length d) < 256 ^ 3 = few-data (carriesData h status) (replyCount h) (length d) (c .0) (half (isRmw (kindIn h))) in (
+      c .1 ∙ same ∙ sym (length-reply path h status d),
+      rw (eq-eqb _ _ n, lt-ltb (carriedCount h status (length d)) (256 ^ 3) few, le-leb (replyLength path h status (length d)) (length r) (omega (arith, c .1, c .2, same))),
+    )
+  where
+    few-data : (t : Bool) (k l : ℕ) → (t ≡ true → k ≡ l) → k < 256 ^ 3 → cond t l 0 < 256 ^ 3
+    few-data true k l f b = let e = f refl in omega (arith, e, b)
+    few-data false k l f b = omega arith
+
+    half : (t : Bool) → cond t (h .length / 2) (h .length) < 256 ^ 3
+    half true = omega (arith, small)
+    half false = small

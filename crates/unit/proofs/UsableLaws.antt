@@ -1,0 +1,326 @@
+-- A usable unit is usable after any call.
+use mathlib.Core.Path.{_≡_, refl}
+use mathlib.Core.Bool.{Bool, true, false, cond, not, _&&_, _||_, false≢true}
+use mathlib.Core.List.{List}
+use Prim.Native.Nat.{ℕ, _+_, _*_, _%_, _^_, _<_, _≤_}
+use native.Mathlib.Omega.{arith}
+use borrow.Author.Tests.{lt-ltb, le-leb, leb-true, ltb-true}
+use lib.Dec.{eqb, leb, ltb}
+use lib.ListN.{length, getD, drop, take, length-take}
+use Rattle.octets.specs.Places.{part}
+use Rattle.octets.specs.Numbers.{Digits}
+use Rattle.octets.proofs.PlaceLaws.{first-true, second-true}
+use Rattle.octets.proofs.NumberLaws.{number-below}
+use Rattle.packets.specs.Instruction.{typeOf, replyAddressSize, headerSize}
+use Rattle.octets.specs.Crc.{crc}
+use Rattle.packets.specs.declared.reading.Refusal.the-variants.{Incomplete, UnknownProtocol, ExtendedProtocol, Reply, HeaderCrc}
+use Rattle.packets.specs.Header.{instructionAt}
+use Rattle.packets.specs.Path.{pathOf}
+use Rattle.packets.specs.Reading.{refused, timePacket, command, readCommand, readProtocol, readPacket}
+use Rattle.packets.specs.Time.{isTimePacket, timeAt, readTime}
+use Rattle.packets.specs.declared.header.Header.{Header}
+use Rattle.packets.specs.declared.path.Path.{Path}
+use Rattle.packets.specs.declared.reading.End.{End}
+use Rattle.packets.specs.declared.reading.Packet.{Packet}
+use Rattle.packets.specs.declared.reading.Reading.{Reading}
+use Rattle.packets.specs.declared.reading.Reading.the-variants.{Refused, Time, Command}
+use Rattle.packets.specs.declared.time.When.{When}
+use Rattle.packets.specs.declared.time.When.the-variants.{AtWrap, AtOnce}
+use Rattle.packets.specs.declared.time.Time.{Time as TheTime}
+use Rattle.packets.specs.declared.time.TimeReading.the-variants.{ThrownAway, Taken}
+use Rattle.packets.proofs.PathLaws.{path-short}
+use Rattle.packets.proofs.TimeLaws.{time-twelve}
+use Rattle.unit.specs.Some.{some}
+use Rattle.unit.specs.Windows.{meets, used}
+use Rattle.unit.specs.Usable.{fitsTime, usableUnit, usable}
+use Rattle.unit.specs.Clock.{timeOf, secondsOf, setAt, afterTime, atWrap, fractionSet, afterCode, afterTicks, timeCodeWritten}
+use Rattle.unit.specs.Owner.{unowned, swapped}
+use Rattle.unit.specs.Fields.{rowOf, timeCodeCounter, divider, dividerWritten}
+use Rattle.unit.specs.Plan.{decided}
+use Rattle.unit.specs.Act.{withClock, withFields, withOwner, fieldWritten, changed, countedUnit}
+use Rattle.unit.specs.Calls.{Outcome, withoutReply, leaving, takeTime, takeCommand, takeReading, takePacket, takeTimeCode, takeTicks}
+use Rattle.unit.specs.declared.fate.Fate.the-variants.{Unusable, NoSuchLink, TimeTaken}
+use Rattle.unit.specs.declared.windows.Question.the-variants.{EndsPast}
+use Rattle.unit.specs.declared.clock.Clock.{Clock}
+use Rattle.unit.specs.declared.clock.Elapsed.{Elapsed}
+use Rattle.unit.specs.declared.clock.Waiting.{Waiting}
+use Rattle.unit.specs.declared.clock.Waiting.the-variants.{NoValue, Value}
+use Rattle.unit.specs.declared.owner.Owner.{Owner}
+use Rattle.unit.specs.declared.decide.Action.{Action}
+use Rattle.unit.specs.declared.decide.Action.the-variants.{Nothing, ReadMemory, RepeatByte, Store, StoreLast, Combine, ReadFields, Swap, WriteField}
+use Rattle.unit.specs.declared.unit.Unit.{Unit as TheUnit}
+
+-- ---- the causes, one by one
+
+ten : (a b c d e f g h i j : Bool) → (a && b && c && d && e && f && g && h && i && j) ≡ true
+    → (a ≡ true) × (b ≡ true) × (c ≡ true) × (d ≡ true) × (e ≡ true) × (f ≡ true) × (g ≡ true) × (h ≡ true) × (i ≡ true) × (j ≡ true)
+ten true true true true true true true true true true x = (refl, refl, refl, refl, refl, refl, refl, refl, refl, refl)
+ten false b c d e f g h i j x = absurd (false≢true x)
+ten true false c d e f g h i j x = absurd (false≢true x)
+ten true true false d e f g h i j x = absurd (false≢true x)
+ten true true true false e f g h i j x = absurd (false≢true x)
+ten true true true true false f g h i j x = absurd (false≢true x)
+ten true true true true true false g h i j x = absurd (false≢true x)
+ten true true true true true true false h i j x = absurd (false≢true x)
+ten true true true true true true true false i j x = absurd (false≢true x)
+ten true true true true true true true true false j x = absurd (false≢true x)
+ten true true true true true true true true true false x = absurd (false≢true x)
+
+abbrev Works : TheUnit → Type 0
+Works u =
+    (leb (u .windows .count) 16 ≡ true) × (leb 0xF0 (u .number) ≡ true) × (leb (u .number) 0xFE ≡ true) × (leb 1 (u .links) ≡ true)
+    × (leb (u .links) 31 ≡ true) × (ltb (u .clock .elapsed .value) (2 ^ 56) ≡ true) × (fitsTime (u .clock .waiting) ≡ true)
+    × (leb (u .clock .last) 63 ≡ true) × (leb (u .owner .path .count) 12 ≡ true) × (leb (u .owner .link) 31 ≡ true)
+
+works : (u : TheUnit) → usableUnit u ≡ true → Works u
+unfolding usableUnit
+works u =
+    ten (leb (u .windows .count) 16) (leb 0xF0 (u .number)) (leb (u .number) 0xFE) (leb 1 (u .links)) (leb (u .links) 31)
+    (ltb (u .clock .elapsed .value) (2 ^ 56)) (fitsTime (u .clock .waiting)) (leb (u .clock .last) 63) (leb (u .owner .path .count) 12)
+    (leb (u .owner .link) 31)
+
+-- ---- another clock, another owner
+
+abbrev ClockWorks : Clock → Type 0
+ClockWorks c = (ltb (c .elapsed .value) (2 ^ 56) ≡ true) × (fitsTime (c .waiting) ≡ true) × (leb (c .last) 63 ≡ true)
+
+abbrev OwnerWorks : Owner → Type 0
+OwnerWorks o = (leb (o .path .count) 12 ≡ true) × (leb (o .link) 31 ≡ true)
+
+clock-works : (u : TheUnit) → usableUnit u ≡ true → ClockWorks (u .clock)
+clock-works u e = let w = works u e in (w .5, w .6, w .7)
+
+owner-works : (u : TheUnit) → usableUnit u ≡ true → OwnerWorks (u .owner)
+owner-works u e = let w = works u e in (w .8, w .9)
+
+with-clock : (u : TheUnit) (c : Clock) → usableUnit u ≡ true → ClockWorks c → usableUnit (withClock u c) ≡ true
+unfolding usableUnit
+with-clock u c e k =
+    let w = works u e in
+    rw (w .0, w .1, w .2, w .3, w .4, k .0, k .1, k .2, w .8, w .9)
+
+with-owner : (u : TheUnit) (o : Owner) → usableUnit u ≡ true → OwnerWorks o → usableUnit (withOwner u o) ≡ true
+unfolding usableUnit
+with-owner u o e k =
+    let w = works u e in
+    rw (w .0, w .1, w .2, w .3, w .4, w .5, w .6, w .7, k .0, k .1)
+
+-- ---- the time
+
+after-ticks : (c : Clock) (n : ℕ) → ClockWorks c → ClockWorks (afterTicks c n)
+unfolding afterTicks
+after-ticks c n k = (lt-ltb ((c .elapsed .value + n) % 2 ^ 56) (2 ^ 56) (omega arith), k .1, k .2)
+
+wrap-fits : (e : Elapsed) (w : Waiting) → fitsTime w ≡ true → ltb (atWrap e w .value) (2 ^ 56) ≡ true
+wrap-fits e (Value x) k = k
+wrap-fits e NoValue k = lt-ltb (timeOf ((secondsOf (e .value) + 1) % 2 ^ 32) 0) (2 ^ 56) (omega arith)
+
+after-code : (c : Clock) (v : ℕ) → v < 64 → ClockWorks c → ClockWorks (afterCode c v)
+unfolding afterCode
+after-code c v h k = go (eqb (c .last) 63 && eqb v 0) (eqb v (c .last + 1))
+  where
+    low : leb v 63 ≡ true
+    low = le-leb v 63 (omega arith)
+
+    go : (t s : Bool) → ClockWorks (cond t (record { last = v; elapsed = atWrap (c .elapsed) (c .waiting); waiting = NoValue })
+        (record { last = v; elapsed = cond s (fractionSet (c .elapsed) v) (c .elapsed); waiting = c .waiting }))
+    go true s = (wrap-fits (c .elapsed) (c .waiting) (k .1), refl, low)
+    go false true =
+        let l = ltb-true (c .elapsed .value) (2 ^ 56) (k .0) in
+        (lt-ltb (timeOf (secondsOf (c .elapsed .value)) (v * 2 ^ 18)) (2 ^ 56) (omega (arith, l, h)), k .1, low)
+    go false false = (k .0, k .1, low)
+
+set-at : (w : When) (c : Clock) (t : TheTime) → t .value < 2 ^ 56 → ClockWorks c → ClockWorks (setAt w c t)
+set-at AtOnce c t h k = (lt-ltb _ _ h, refl, k .2)
+set-at AtWrap c t h k = (k .0, lt-ltb _ _ h, k .2)
+
+after-time : (c : Clock) (t : TheTime) → t .value < 2 ^ 56 → ClockWorks c → ClockWorks (afterTime c t)
+unfolding afterTime
+after-time c t h k = set-at (t .when) c t h k
+
+code-written : (c : Clock) (word : ℕ) → ClockWorks c → ClockWorks (timeCodeWritten c word)
+code-written c word k = go (eqb word 0)
+  where
+    go : (t : Bool) → ClockWorks (cond t (record { last = 0; elapsed = c .elapsed; waiting = c .waiting }) c)
+    go true = (k .0, k .1, refl)
+    go false = k
+
+-- ---- the owner
+
+after-swap : (o : Owner) (new expected initiator : ℕ) (path : Path) (link : ℕ) → path .count ≤ 12 → link ≤ 31 → OwnerWorks o
+    → OwnerWorks (swapped o new expected initiator path link)
+unfolding swapped pathOf
+after-swap o new expected initiator path link p l k = go (eqb (o .device) expected) (eqb (o .device) 0) (eqb new 0)
+  where
+    go : (a b c : Bool) → OwnerWorks (cond a (cond b (cond c o (record { device = new; initiator = initiator; path = path; link = link }))
+        (cond c unowned (record { device = new; initiator = o .initiator; path = o .path; link = o .link }))) o)
+    go false b c = k
+    go true true true = k
+    go true true false = (le-leb _ _ p, le-leb _ _ l)
+    go true false true = (refl, refl)
+    go true false false = k
+
+-- ---- an action
+
+field-written : (u : TheUnit) (address word : ℕ) → usableUnit u ≡ true → usableUnit (fieldWritten u address word) ≡ true
+unfolding fieldWritten usableUnit
+field-written u address word e = go (eqb (rowOf address) timeCodeCounter) (eqb (rowOf address) divider)
+  where
+    go : (a b : Bool) → usableUnit (cond a (withClock u (timeCodeWritten (u .clock) word)) (cond b (withFields u (dividerWritten (u .fields) word)) u)) ≡ true
+    go true b = with-clock u (timeCodeWritten (u .clock) word) e (code-written (u .clock) word (clock-works u e))
+    go false true = e
+    go false false = e
+
+after-action : (a : Action) (u : TheUnit) (initiator : ℕ) (path : Path) (link : ℕ) → path .count ≤ 12 → link ≤ 31 → usableUnit u ≡ true
+    → usableUnit (changed a u initiator path link) ≡ true
+unfolding changed
+after-action Nothing u initiator path link p l e = e
+after-action (ReadMemory at count) u initiator path link p l e = e
+after-action (RepeatByte at count) u initiator path link p l e = e
+after-action (Store at from count) u initiator path link p l e = e
+after-action (StoreLast at from count) u initiator path link p l e = e
+after-action (Combine at from count) u initiator path link p l e = e
+after-action (ReadFields address count) u initiator path link p l e = e
+after-action (Swap new expected) u initiator path link p l e =
+    with-owner u (swapped (u .owner) new expected initiator path link) e
+    (after-swap (u .owner) new expected initiator path link p l (owner-works u e))
+after-action (WriteField address word) u initiator path link p l e = field-written u address word e
+
+-- no action touches a window
+field-windows : (u : TheUnit) (address word : ℕ) → fieldWritten u address word .windows ≡ u .windows
+unfolding fieldWritten
+field-windows u address word = go (eqb (rowOf address) timeCodeCounter) (eqb (rowOf address) divider)
+  where
+    go : (a b : Bool) → cond a (withClock u (timeCodeWritten (u .clock) word)) (cond b (withFields u (dividerWritten (u .fields) word)) u) .windows ≡ u .windows
+    go true b = refl
+    go false true = refl
+    go false false = refl
+
+same-windows : (a : Action) (u : TheUnit) (initiator : ℕ) (path : Path) (link : ℕ) → changed a u initiator path link .windows ≡ u .windows
+unfolding changed
+same-windows Nothing u initiator path link = refl
+same-windows (ReadMemory at count) u initiator path link = refl
+same-windows (RepeatByte at count) u initiator path link = refl
+same-windows (Store at from count) u initiator path link = refl
+same-windows (StoreLast at from count) u initiator path link = refl
+same-windows (Combine at from count) u initiator path link = refl
+same-windows (ReadFields address count) u initiator path link = refl
+same-windows (Swap new expected) u initiator path link = refl
+same-windows (WriteField address word) u initiator path link = field-windows u address word
+
+-- ---- the path of a packet that was read has at most twelve bytes
+
+abbrev Short : Packet → Type 0
+Short k = k .path .count ≤ 12
+
+either : (t : Bool) (a b : Packet) → Short a → Short b → Short (cond t a b)
+either true a b x y = x
+either false a b x y = y
+
+command-short : (p : List ℕ) → Short (command p)
+command-short p =
+    let n = replyAddressSize (instructionAt p) in
+    path-short (part 4 n p) (omega (arith, length-take n (drop 4 p)))
+
+read-short : (p : List ℕ) → Short (readCommand p)
+unfolding readCommand pathOf
+read-short p =
+    let i = instructionAt p in
+    let whole = cond (eqb (crc (take (headerSize i) p)) 0) (command p) (refused HeaderCrc) in
+    let cut = cond (ltb (length p) (headerSize i)) (refused Incomplete) whole in
+    either (ltb (length p) 3) (refused Incomplete) (cond (eqb (typeOf i) 0) (refused Reply) cut) (omega arith)
+    (either (eqb (typeOf i) 0) (refused Reply) cut (omega arith)
+    (either (ltb (length p) (headerSize i)) (refused Incomplete) whole (omega arith)
+    (either (eqb (crc (take (headerSize i) p)) 0) (command p) (refused HeaderCrc) (command-short p) (omega arith))))
+
+protocol-short : (q : ℕ) (p : List ℕ) (n : ℕ) → Short (readProtocol q p n)
+unfolding readProtocol pathOf
+protocol-short q p n =
+    let time = leb 0xF0 q && leb q 0xFE && eqb q n in
+    let other = cond time timePacket (refused UnknownProtocol) in
+    either (eqb q 0x01 || eqb q 0x03) (readCommand p) (cond (eqb q 0x00) (refused ExtendedProtocol) other) (read-short p)
+    (either (eqb q 0x00) (refused ExtendedProtocol) other (omega arith) (either time timePacket (refused UnknownProtocol) (omega arith) (omega arith)))
+
+packet-short : (p : List ℕ) (n : ℕ) → Short (readPacket p n)
+unfolding readPacket pathOf
+packet-short p n =
+    either (ltb (length p) 2) (refused Incomplete) (readProtocol (getD p 1 0) p n) (omega arith) (protocol-short (getD p 1 0) p n)
+
+-- ---- the calls
+
+-- usable with the same memory, where the windows are the same
+with-memory : (u v : TheUnit) (n : ℕ) → usable u n ≡ true → v .windows ≡ u .windows → usableUnit v ≡ true → usable v n ≡ true
+unfolding usable
+with-memory u v n e w k =
+    rw (k, w, first-true (leb 1 n && leb n 65536 && not (some (meets (EndsPast n)) (used (u .windows)))) (usableUnit u) e)
+
+alone : (u : TheUnit) (n : ℕ) → usable u n ≡ true → usableUnit u ≡ true
+unfolding usable
+alone u n e = second-true (leb 1 n && leb n 65536 && not (some (meets (EndsPast n)) (used (u .windows)))) (usableUnit u) e
+
+taken-time : (u : TheUnit) (t : TheTime) (n : ℕ) → t .value < 2 ^ 56 → usable u n ≡ true
+    → usable (countedUnit TimeTaken (withClock u (afterTime (u .clock) t))) n ≡ true
+unfolding usableUnit
+taken-time u t n h e =
+    let k = alone u n e in
+    with-memory u (countedUnit TimeTaken (withClock u (afterTime (u .clock) t))) n e refl
+    (with-clock u (afterTime (u .clock) t) k (after-time (u .clock) t h (clock-works u k)))
+
+usable-time : (u : TheUnit) (p : List ℕ) (end : End) (n : ℕ) → Digits 256 p → usable u n ≡ true
+    → usable (takeTime (readTime p end (u .logical) (u .number)) u .unit) n ≡ true
+unfolding readTime usable usableUnit
+usable-time u p end n d e = go (isTimePacket p end (u .logical) (u .number)) refl
+  where
+    go : (t : Bool) → isTimePacket p end (u .logical) (u .number) ≡ t → usable (takeTime (cond t (Taken (timeAt p)) ThrownAway) u .unit) n ≡ true
+    go true f =
+        let twelve = time-twelve p end (u .logical) (u .number) f in
+        taken-time u (timeAt p) n (number-below p 4 7 d (omega (arith, twelve))) e
+    go false f = e
+
+usable-command : (u : TheUnit) (h : Header) (path : Path) (p : List ℕ) (end : End) (link : ℕ) (m r : List ℕ) → path .count ≤ 12 → link ≤ 31
+    → usable u (length m) ≡ true → usable (takeCommand u h path p end link m r .answer .unit) (length m) ≡ true
+unfolding takeCommand usableUnit
+usable-command u h path p end link m r short low e =
+    let plan = decided u h path p end link (length r) in
+    let after = changed (plan .action) u (h .initiator) path link in
+    with-memory u (countedUnit (plan .fate) after) (length m) e (same-windows (plan .action) u (h .initiator) path link)
+    (after-action (plan .action) u (h .initiator) path link short low (alone u (length m) e))
+
+usable-reading : (read : Reading) (u : TheUnit) (path : Path) (p : List ℕ) (end : End) (link : ℕ) (m r : List ℕ) → Digits 256 p → path .count ≤ 12
+    → link ≤ 31 → usable u (length m) ≡ true → usable (takeReading read u path p end link m r .answer .unit) (length m) ≡ true
+unfolding usable usableUnit
+usable-reading (Refused why) u path p end link m r d short low e = e
+usable-reading Time u path p end link m r d short low e = usable-time u p end (length m) d e
+usable-reading (Command h) u path p end link m r d short low e = usable-command u h path p end link m r short low e
+
+-- any packet of bytes
+pub usable-packet : (u : TheUnit) (p : List ℕ) (end : End) (link : ℕ) (m r : List ℕ) → Digits 256 p → usable u (length m) ≡ true
+    → usable (takePacket u p end link m r .answer .unit) (length m) ≡ true
+unfolding takePacket
+usable-packet u p end link m r d e =
+    go (usable u (length m)) (leb 1 link && leb link (u .links)) refl
+    (λ low. usable-reading (readPacket p (u .number) .reading) u (readPacket p (u .number) .path) p end link m r d (packet-short p (u .number)) low e)
+  where
+    o : Outcome
+    o = takeReading (readPacket p (u .number) .reading) u (readPacket p (u .number) .path) p end link m r
+
+    most : leb (u .links) 31 ≡ true
+    most = works u (alone u (length m) e) .4
+
+    go : (t s : Bool) → (leb 1 link && leb link (u .links)) ≡ s → (link ≤ 31 → usable (o .answer .unit) (length m) ≡ true)
+        → usable (cond (not t) (leaving (withoutReply Unusable u) m r) (cond (not s) (leaving (withoutReply NoSuchLink u) m r) o) .answer .unit) (length m) ≡ true
+    go false s f k = e
+    go true false f k = e
+    go true true f k =
+        let a = leb-true link (u .links) (second-true (leb 1 link) (leb link (u .links)) f) in
+        let b = leb-true (u .links) 31 most in
+        k (omega (arith, a, b))
+
+-- any Time-Code, any ticks
+pub usable-code : (u : TheUnit) (byte : ℕ) → usableUnit u ≡ true → usableUnit (takeTimeCode u byte .unit) ≡ true
+unfolding takeTimeCode
+usable-code u byte e = rw e (with-clock u (afterCode (u .clock) (byte % 2 ^ 6)) e (after-code (u .clock) (byte % 2 ^ 6) (omega arith) (clock-works u e)))
+
+pub usable-ticks : (u : TheUnit) (ticks : ℕ) → usableUnit u ≡ true → usableUnit (takeTicks u ticks .unit) ≡ true
+unfolding takeTicks
+usable-ticks u ticks e = rw e (with-clock u (afterTicks (u .clock) ticks) e (after-ticks (u .clock) ticks (clock-works u e)))

@@ -1,0 +1,13 @@
+-- `unit::owner::Owner::none` meets its contract: all of it is zero.
+use borrow.Author.Needs.{needs}
+use Rattle.unit.proofs.owner.Owner.none.Statement.{statement}
+use Rattle.unit.proofs.owner.Owner.none.Tie as tie
+
+none-requires : tie.Need-none-requires
+none-requires c κs = search needs
+
+returns : tie.Need-returns
+returns c = rw (c .none .ensures)
+
+pub none-spec : {M : Type 1} → statement M
+none-spec = tie.close (tie.spec none-requires returns)

@@ -1,0 +1,13 @@
+pub mod Some
+pub mod Fate
+pub mod Windows
+pub mod Counters
+pub mod Clock
+pub mod Owner
+pub mod Fields
+pub mod Usable
+pub mod Decide
+pub mod Plan
+pub mod Granted
+pub mod Act
+pub mod Calls

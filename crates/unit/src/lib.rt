@@ -1,0 +1,33 @@
+// Layer 3, the unit: an RMAP target, a plug-and-play target and a CUC time receiver in one. It stands on the promises of packets and
+// octets alone. A call takes the unit by value and answers the unit after it; memory and reply buffer are lent. Every public function
+// takes any input, and promises an equation for what it answers and what it leaves.
+//
+// A packet's way: calls reads it and decides, then acts, then settles. decide makes a plan and touches nothing; act has the few functions that
+// touch memory and the reply buffer, and what changes in the unit.
+mod act;
+mod calls;
+mod clock;
+mod counters;
+mod decide;
+mod fate;
+mod fields;
+mod owner;
+mod unit;
+mod whole;
+mod windows;
+
+pub use calls::Answer;
+pub use calls::take_packet;
+pub use calls::take_ticks;
+pub use calls::take_time_code;
+pub use clock::Clock;
+pub use clock::Elapsed;
+pub use clock::Waiting;
+pub use fate::Fate;
+pub use fate::Status;
+pub use fate::Told;
+pub use fields::Fields;
+pub use owner::Owner;
+pub use unit::Unit;
+pub use windows::Window;
+pub use windows::Windows;
