@@ -1,5 +1,6 @@
 // The vectors of the file `stdin`, a line each. Its first byte tells what is done with the fields behind it, which bars divide;
-// the first field is the name that is printed. Numbers and bytes are in hexadecimal; a field has at most 64 bytes.
+// the first field is the name that is printed. Numbers and bytes are in hexadecimal; a field has at most 64 bytes, a packet that a
+// unit takes 1,100.
 //
 //   # text                                     a heading
 //   c name|bytes                               CRC of bytes, the last of them their CRC
@@ -13,8 +14,18 @@
 //   k name|from|count|at                       a part of four bytes is copied into eight
 //   f name|at|count                            places of eight bytes are filled
 //   n name|at|width|number, v name|at|width    a number is written into eight bytes, or read out of them
-ghost use Prim.Native.Nat.{_<_, _≤_};
-ghost use lib.ListN.{length};
+//
+// A unit and its memory go from line to line. Those that set it up have no name and print nothing:
+//
+//   u size                                     a fresh unit: the bench's, but with that many bytes of memory and a window over all of them
+//   o what|number                              one thing of the unit is set: 0 memory's length, 1 time number, 2 link count, 3 count of
+//                                              windows, 4 last Time-Code, 5 ET, 6 a waiting value (epoch 9f), 7 count of the owner's
+//                                              path, 8 its link, 9 every counter; 10 to 19 the fields that are held, in order
+//   x row|start|end|rights                     a window is set; rights are 1 to read, 2 to write, 3 both
+//   g name|link|room|packet, h ..              it takes a packet, ended by EOP or by EEP, with a reply buffer of `room` bytes
+//   q name|byte, z name|ticks                  it takes a Time-Code, or ticks
+//   j name|at|count                            bytes of its memory
+//   y name                                     its owner, clock and counters
 use crate::annex;
 use crate::commands;
 use crate::edges;
@@ -22,41 +33,54 @@ use crate::instructions;
 use crate::show;
 use crate::text;
 use crate::times;
+use crate::units;
+use crate::units::State;
 use packets::End;
 
 pub(crate) fn all() {
     let mut space = io::large_buffer();
     let n = io::read_full(0, &mut space);
-    each(&space[0..n]);
+    let mut memory = [0u8; 65600];
+    each(&space[0..n], &mut memory);
 }
 
-fn each(s: &[u8]) {
+fn each(s: &[u8], memory: &mut [u8]) {
+    let mut state = units::fresh(0);
     let mut at = 0;
     while at < s.len() {
-        at = at + one(&s[at..]);
+        let size = text::find(&s[at..], b'\n');
+        state = run(state, memory, &s[at..at + size]);
+        at = at + size + 1;
     }
 }
 
-// Runs the first line and answers how many bytes it takes, with its end.
-fn one(s: &[u8]) -> usize
-    requires { ⌜ 0 < length (now s) ⌝ }
-    ensures { λ n. ⌜ (0 < n) × (n ≤ length (now (s .entry))) ⌝ }
-{
-    let end = text::find(s, b'\n');
-    run(&s[0..end]);
-    if end < s.len() {
-        return end + 1;
-    }
-    end
-}
-
-fn run(line: &[u8]) {
+// Runs a line, without its end.
+fn run(state: State, memory: &mut [u8], line: &[u8]) -> State {
     if line.len() < 2 {
-        return;
+        return state;
     }
     let verb = line[0];
     let fields = &line[2..];
     match verb {
+        b'u' => units::start(memory, fields),
+        b'o' => units::set(state, fields),
+        b'x' => units::window(state, fields),
+        b'g' => units::packet(state, memory, fields, End::Eop),
+        b'h' => units::packet(state, memory, fields, End::Eep),
+        b'q' => units::time_code(state, fields),
+        b'z' => units::ticks(state, fields),
+        _ => {
+            shown(verb, state, memory, fields);
+            state
+        }
+    }
+}
+
+// The lines that leave the unit as it is.
+fn shown(verb: u8, state: State, memory: &[u8], fields: &[u8]) {
+    match verb {
+        b'j' => units::memory(units::first(memory, state.size), fields),
+        b'y' => units::holds(fields, state.unit),
         b'#' => heading(fields),
         b'c' => crc(fields),
         b'i' => instructions::say(text::before(fields), byte_of(text::after(fields))),
@@ -76,7 +100,7 @@ fn run(line: &[u8]) {
 }
 
 // A field of one byte.
-fn byte_of(field: &[u8]) -> u8 {
+pub(crate) fn byte_of(field: &[u8]) -> u8 {
     (text::number(field) % 256) as u8
 }
 

@@ -1,6 +1,6 @@
 // Outside vectors and edge cases, run through the proved crates. Most are lines of the file `stdin` beside this folder. Each line that is
-// printed tells what came out; the file `stdout` holds what must: for the vectors what the papers say, for the edges what the
-// definitions do.
+// printed tells what came out; the file `stdout` holds what must: for the vectors and the unit what the papers say, for the edges what
+// the definitions do.
 mod annex;
 mod commands;
 mod edges;
@@ -9,6 +9,7 @@ mod lines;
 mod show;
 mod text;
 mod times;
+mod units;
 
 fn main() {
     annex::no_bytes();

@@ -9,6 +9,12 @@ pub(crate) fn byte(b: u8) {
     io::print_hex(1, b as u64, 2);
 }
 
+// A number behind a text, in hexadecimal, with at least `width` digits.
+pub(crate) fn number(before: &[u8], n: u64, width: usize) {
+    text(before);
+    io::print_hex(1, n, width);
+}
+
 // Bytes, each behind a space, and the end of the line.
 pub(crate) fn line(bytes: &[u8]) {
     let mut i = 0;

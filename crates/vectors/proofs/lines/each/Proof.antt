@@ -1,39 +1,64 @@
--- `vectors::lines::each` is safe and ends: a line has at least a byte.
-use Prim.Native.Nat.{_-_, _≤_}
+-- `vectors::lines::each` is safe and ends: a line takes at least a byte, its end, which the last may lack.
+use mathlib.Core.Path.{_≡_}
+use Prim.Native.Nat.{_+_, _-_, _≤_}
 use lib.ListN.{length}
 use borrow.Author.Needs.{needs}
 use Rattle.vectors.proofs.lines.each.Statement.{statement}
 use Rattle.vectors.proofs.lines.each.Tie as tie
 
 abbrev Inv-loop : tie.InvT-loop
-Inv-loop s at₀ at = at ≤ length s
+Inv-loop s memory₀ state₀ at₀ memory state at = (at ≤ length s + 1) × (length memory ≡ length memory₀)
 
 abbrev μ-loop : tie.MeasureT-loop
-μ-loop s at₀ at = length s - at
+μ-loop s memory₀ state₀ at₀ memory state at = length s + 1 - at
+
+fresh-requires : tie.Need-fresh-requires Inv-loop μ-loop
+fresh-requires c κs = search needs
 
 loop-holds : tie.Need-loop-holds Inv-loop μ-loop
 loop-holds c = search needs
 
-sub-one : tie.Need-sub-one Inv-loop μ-loop
-sub-one c = search needs
+sub-find : tie.Need-sub-find Inv-loop μ-loop
+sub-find c = search needs
 
-part-one-start : tie.Need-part-one-start Inv-loop μ-loop
-part-one-start c = search needs
+part-find-start : tie.Need-part-find-start Inv-loop μ-loop
+part-find-start c = search needs
 
-part-one-end : tie.Need-part-one-end Inv-loop μ-loop
-part-one-end c = search needs
+part-find-end : tie.Need-part-find-end Inv-loop μ-loop
+part-find-end c = search needs
 
-one-requires : tie.Need-one-requires Inv-loop μ-loop
-one-requires c κs = search needs
+find-requires : tie.Need-find-requires Inv-loop μ-loop
+find-requires c κs = search needs
+
+add-run : tie.Need-add-run Inv-loop μ-loop
+add-run c = search needs
+
+sub-run : tie.Need-sub-run Inv-loop μ-loop
+sub-run c = search needs
+
+part-run-start : tie.Need-part-run-start Inv-loop μ-loop
+part-run-start c = search needs
+
+part-run-end : tie.Need-part-run-end Inv-loop μ-loop
+part-run-end c = search needs
+
+run-requires : tie.Need-run-requires Inv-loop μ-loop
+run-requires c κs = search needs
 
 add-at : tie.Need-add-at Inv-loop μ-loop
 add-at c = search needs
+
+add-at-2 : tie.Need-add-at-2 Inv-loop μ-loop
+add-at-2 c = search needs
 
 loop-less : tie.Need-loop-less Inv-loop μ-loop
 loop-less c = search needs
 
 loop-again : tie.Need-loop-again Inv-loop μ-loop
 loop-again c = search needs
+
+same-length : tie.Need-same-length Inv-loop μ-loop
+same-length c = search needs
 
 returns : tie.Need-returns Inv-loop μ-loop
 returns c = search needs
@@ -44,12 +69,20 @@ each-spec =
     (tie.spec
     Inv-loop
     μ-loop
+    fresh-requires
     loop-holds
-    sub-one
-    part-one-start
-    part-one-end
-    one-requires
+    sub-find
+    part-find-start
+    part-find-end
+    find-requires
+    add-run
+    sub-run
+    part-run-start
+    part-run-end
+    run-requires
     add-at
+    add-at-2
     loop-less
     loop-again
+    same-length
     returns)
