@@ -139,9 +139,6 @@ low-leaves u p end link m r =
 
 -- ---- memory keeps its length, whatever the packet
 
-time-memory : (t : TimeReading) (u : TheUnit) (m r : List ℕ) → length (leaving (takeTime t u) m r .memory) ≡ length m
-time-memory t u m r = refl
-
 reading-length : (read : Reading) (u : TheUnit) (path : Path) (p : List ℕ) (end : End) (link : ℕ) (m r : List ℕ) → usable u (length m) ≡ true
     → ((h : Header) → read ≡ Command h → headerSize (h .instruction) ≤ length p) → length (takeReading read u path p end link m r .memory) ≡ length m
 unfolding takeCommand

@@ -4,7 +4,7 @@ use mathlib.Core.Bool.{Bool, true, false, cond, not, _&&_, false≢true}
 use mathlib.Core.List.{List, [], _∷_}
 use Prim.Native.Nat.{ℕ, _+_, _-_, _/_, _%_, _^_, _≤_, min}
 use native.Mathlib.Omega.{arith}
-use borrow.Author.Tests.{leb-true, ltb-false}
+use borrow.Author.Tests.{leb-true, ltb-false, not-true}
 use lib.Dec.{eqb, leb}
 use lib.ListN.{length, drop, length-drop}
 use Rattle.octets.proofs.PlaceLaws.{first-true, second-true}
@@ -59,11 +59,7 @@ unfolding usable
 usable-windows u n e =
     let past = some (meets (EndsPast n)) (used (u .windows)) in
     let all = first-true (leb 1 n && leb n 65536 && not past) (usableUnit u) e in
-    not-true' past (second-true (leb 1 n && leb n 65536) (not past) all)
-  where
-    not-true' : (b : Bool) → not b ≡ true → b ≡ false
-    not-true' true f = absurd (false≢true f)
-    not-true' false f = refl
+    not-true past (second-true (leb 1 n && leb n 65536) (not past) all)
 
 pub span-room : (u : TheUnit) (h : Header) (n : ℕ) → usable u n ≡ true → isAuthorised (u .windows) h ≡ true → h .address + spanSize h ≤ n
 unfolding isAuthorised
@@ -75,12 +71,11 @@ span-room u h n e a =
 -- ---- the actions, kind by kind
 
 module _ (h : Header) (status : Status) (from k p n : ℕ) (ends : from + k ≡ p) where
-  read-granted : (t s : Bool) → isIncrementing (h .instruction) ≡ s
-      → h .address + cond s (h .length) (min (h .length) 1) ≤ n
+  read-granted : (t s : Bool) → h .address + cond s (h .length) (min (h .length) 1) ≤ n
       → Granted (cond t (cond s (ReadMemory (h .address) (h .length)) (RepeatByte (h .address) (h .length))) Nothing) p n
-  read-granted true true e r = (r, tt)
-  read-granted true false e r = (tt, tt)
-  read-granted false s e r = (tt, tt)
+  read-granted true true r = (r, tt)
+  read-granted true false r = (tt, tt)
+  read-granted false s r = (tt, tt)
 
   rmw-granted : (t : Bool) → (t ≡ true → k ≡ h .length + 1) → h .address + h .length / 2 ≤ n
       → Granted (cond t (Combine (h .address) from (h .length / 2)) Nothing) p n
@@ -97,7 +92,7 @@ module _ (h : Header) (status : Status) (from k p n : ℕ) (ends : from + k ≡ 
       → h .address + cond (isRmw kind) (h .length / 2) (cond (isIncrementing (h .instruction)) (h .length) (min (h .length) 1)) ≤ n
       → Granted (actionOf kind h status from k) p n
   memory-granted Unused e r = (tt, tt)
-  memory-granted Read e r = read-granted (isSuccess status) (isIncrementing (h .instruction)) refl r
+  memory-granted Read e r = read-granted (isSuccess status) (isIncrementing (h .instruction)) r
   memory-granted ReadModifyWrite e r = rmw-granted (isSuccess status) e r
   memory-granted Write e r = write-granted (isVerified (h .instruction) && not (isSuccess status)) (isIncrementing (h .instruction)) r
 

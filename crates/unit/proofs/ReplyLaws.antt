@@ -4,7 +4,7 @@ use mathlib.Core.Bool.{Bool, true, false, cond, not, _&&_, _||_, false≢true}
 use mathlib.Core.List.{List}
 use Prim.Native.Nat.{ℕ, _+_, _-_, _/_, _%_, _^_, _<_, _≤_}
 use native.Mathlib.Omega.{arith}
-use borrow.Author.Tests.{lt-ltb, le-leb, leb-true, ltb-false, eqb-true, eq-eqb}
+use borrow.Author.Tests.{lt-ltb, le-leb, leb-true, ltb-false, eqb-true, eq-eqb, not-true}
 use lib.Dec.{eqb, leb, ltb}
 use lib.ListN.{length, drop, getD, length-replicate}
 use Rattle.octets.specs.Places.{placed}
@@ -124,11 +124,8 @@ same-length path h status n k f = go (carriesData h status) refl
 
 carries-passed : (h : Header) (s : Status) → carriesData h (byteOf s) ≡ true → (isWrite (h .instruction) ≡ false) × (isSuccess s ≡ true)
 carries-passed h s e =
-    (no (isWrite (h .instruction)) (first-true (not (isWrite (h .instruction))) (isSuccess s) e), second-true (not (isWrite (h .instruction))) (isSuccess s) e)
-  where
-    no : (b : Bool) → not b ≡ true → b ≡ false
-    no true f = absurd (false≢true f)
-    no false f = refl
+    let w = isWrite (h .instruction) in
+    (not-true w (first-true (not w) (isSuccess s) e), second-true (not w) (isSuccess s) e)
 
 module _ (u : TheUnit) (h : Header) (path : Path) (link : ℕ) (m : List ℕ) (room : ℕ) where
   -- a plan that replies has counted its data, and they have room
