@@ -1,20 +1,24 @@
 -- Laws of reading: what a packet is read as, case by case.
-use mathlib.Core.Path.{_≡_, refl, ap}
-use mathlib.Core.Bool.{Bool, true, false, cond, _&&_, _||_}
+use mathlib.Core.Path.{_≡_, refl, sym, _∙_, ap}
+use mathlib.Core.Bool.{Bool, true, false, cond, _&&_, _||_, false≢true}
 use mathlib.Core.Logic.{_⊎_, inl, inr}
 use mathlib.Core.List.{List}
-use Prim.Native.Nat.{ℕ, _<_, _≤_}
+use Prim.Native.Nat.{ℕ, _+_, _^_, _<_, _≤_}
 use native.Mathlib.Omega.{arith}
 use borrow.Author.Tests.{lt-ltb, le-ltb, le-leb, lt-leb, eq-eqb, ne-eqb, ltb-false, eqb-true, eqb-false}
 use lib.Dec.{eqb, leb, ltb}
 use lib.ListN.{length, getD, take}
 use Rattle.octets.specs.Crc.{crc}
-use Rattle.packets.specs.Instruction.{typeOf, headerSize}
-use Rattle.packets.specs.Header.{instructionAt}
+use Rattle.octets.specs.Numbers.{Digits}
+use Rattle.octets.proofs.NumberLaws.{number-below}
+use Rattle.packets.specs.Instruction.{typeOf, replyAddressSize, headerSize}
+use Rattle.packets.specs.Header.{instructionAt, partsAt}
 use Rattle.packets.specs.Reading.{refused, timePacket, command, readCommand, readProtocol, readPacket}
+use Rattle.packets.specs.declared.instruction.Instruction.{Instruction}
 use Rattle.packets.specs.declared.path.Path.{Path}
 use Rattle.packets.specs.declared.header.Header.{Header}
 use Rattle.packets.specs.declared.reading.Packet.{Packet}
+use Rattle.packets.specs.declared.reading.Reading.{Reading}
 use Rattle.packets.specs.declared.reading.Reading.the-variants.{Refused, Time, Command}
 use Rattle.packets.specs.declared.reading.Refusal.{Refusal}
 use Rattle.packets.specs.declared.reading.Refusal.the-variants.{Incomplete, UnknownProtocol, ExtendedProtocol, Reply, HeaderCrc}
@@ -148,3 +152,73 @@ module _ {h : Header} {k : Path} where
       let t = passed (ltb (length p) 3) (eqb (typeOf i) 0) (ltb (length p) (headerSize i)) (eqb (crc (take (headerSize i) p)) 0)
       Incomplete Reply Incomplete HeaderCrc (command p) e in
       (ltb-false (length p) (headerSize i) (t .2), eqb-false (typeOf i) 0 (t .1), t .3)
+
+-- ---- a packet that was read as a command is that one command
+
+abbrev header-or : Header → Reading → Header
+header-or h r = elim r [ Refused why ↦ h | Time ↦ h | Command k ↦ k ]
+
+pub one-command : (r : Reading) (h k : Header) → r ≡ Command h → r ≡ Command k → k ≡ h
+one-command r h k e f = sym (ap (header-or h) f) ∙ ap (header-or h) e
+
+module _ (p : List ℕ) (n : ℕ) (h : Header) (is : readPacket p n .reading ≡ Command h) where
+  as-read : readPacket p n ≡ record { reading = Command h; path = readPacket p n .path }
+  as-read = λ i. record { reading = is i; path = readPacket p n .path }
+
+  shown : (headerSize (instructionAt p) ≤ length p) × (typeOf (instructionAt p) ≡ 0 → ⊥) × (command p ≡ record { reading = Command h; path = readPacket p n .path })
+  shown = command-read p (packet-command p n as-read .1)
+
+  parts-read : partsAt p (4 + replyAddressSize (instructionAt p)) ≡ h
+  parts-read = ap (λ (k : Packet). header-or h (k .reading)) (shown .2)
+
+  -- its header is whole
+  pub header-whole : headerSize (h .instruction) ≤ length p
+  header-whole = omega (arith, shown .0, ap (λ (k : Header). headerSize (k .instruction)) parts-read)
+
+  -- its protocol is the second byte, 01 or 03
+  pub protocol-read : h .protocol ≡ getD p 1 0
+  protocol-read = sym (ap (λ (k : Header). k .protocol) parts-read)
+
+  pub protocol-other : (h .protocol ≡ 0x01 → ⊥) → h .protocol ≡ 0x03
+  protocol-other other = go (packet-command p n as-read .0)
+    where
+      go : (getD p 1 0 ≡ 0x01) ⊎ (getD p 1 0 ≡ 0x03) → h .protocol ≡ 0x03
+      go (inl a) = absurd (other (protocol-read ∙ a))
+      go (inr b) = protocol-read ∙ b
+
+  -- its L has three bytes
+  pub length-below : Digits 256 p → h .length < 256 ^ 3
+  length-below d =
+      rw (ap (λ (k : Header). k .length) parts-read) at
+      (number-below p (4 + replyAddressSize (instructionAt p) + 8) 3 d (omega (arith, shown .0)))
+
+-- ---- a packet with protocol 01 is no time packet
+
+abbrev is-time : Reading → Bool
+is-time r = elim r [ Refused why ↦ false | Time ↦ true | Command h ↦ false ]
+
+command-no-time : (p : List ℕ) → is-time (readCommand p .reading) ≡ false
+unfolding readCommand
+command-no-time p =
+    go (ltb (length p) 3) (eqb (typeOf i) 0) (ltb (length p) (headerSize i)) (eqb (crc (take (headerSize i) p)) 0)
+  where
+    i : Instruction
+    i = instructionAt p
+
+    go : (a b c d : Bool) → is-time (cond a (refused Incomplete) (cond b (refused Reply) (cond c (refused Incomplete) (cond d (command p) (refused HeaderCrc)))) .reading) ≡ false
+    go true b c d = refl
+    go false true c d = refl
+    go false false true d = refl
+    go false false false true = refl
+    go false false false false = refl
+
+pub no-time : (p : List ℕ) (n : ℕ) → getD p 1 0 ≡ 0x01 → readPacket p n .reading ≡ Time → ⊥
+unfolding readPacket readProtocol
+no-time p n rmap e =
+    let r : readPacket p n ≡ cond (ltb (length p) 2) (refused Incomplete) (readCommand p) =
+    ap (λ (q : ℕ). cond (ltb (length p) 2) (refused Incomplete) (readProtocol q p n)) rmap in
+    go (ltb (length p) 2) (sym (ap (λ (k : Packet). is-time (k .reading)) r) ∙ ap is-time e)
+  where
+    go : (a : Bool) → is-time (cond a (refused Incomplete) (readCommand p) .reading) ≡ true → ⊥
+    go true t = false≢true t
+    go false t = false≢true (sym (command-no-time p) ∙ t)
