@@ -1,10 +1,10 @@
 -- Laws of decisions: what a command that got past the checks has shown.
 use mathlib.Core.Path.{_≡_, refl, sym, _∙_, ap}
-use mathlib.Core.Bool.{true, false, cond, not, _&&_, _||_}
-use mathlib.Core.List.{List}
+use mathlib.Core.Bool.{Bool, true, false, cond, not, _&&_, _||_, false≢true}
+use mathlib.Core.List.{List, [], _∷_}
 use Prim.Native.Nat.{ℕ, _+_, _-_, _/_, _%_, _^_, _≤_}
 use native.Mathlib.Omega.{arith}
-use borrow.Author.Tests.{leb-true, ltb-false, eqb-true, eq-eqb, ne-eqb, not-false}
+use borrow.Author.Tests.{leb-true, leb-false, ltb-false, eqb-true, eq-eqb, ne-eqb, not-false}
 use lib.Dec.{eqb, leb, ltb}
 use lib.ListN.{length, drop, length-drop}
 use lib.Seq.{take-all}
@@ -12,7 +12,7 @@ use native.Mathlib.Nat.{le-of-eq}
 use Rattle.octets.specs.Places.{part}
 use Rattle.octets.specs.Crc.{crc}
 use Rattle.octets.proofs.PlaceLaws.{first-true, second-true}
-use Rattle.packets.specs.Instruction.{codeOf, isWrite, isVerified, headerSize}
+use Rattle.packets.specs.Instruction.{typeOf, codeOf, kindOf, isWrite, isVerified, headerSize}
 use Rattle.packets.specs.Reading.{isEop}
 use Rattle.packets.specs.declared.instruction.Kind.{Kind}
 use Rattle.packets.specs.declared.instruction.Kind.the-variants.{Unused, Read, ReadModifyWrite, Write}
@@ -20,21 +20,63 @@ use Rattle.packets.specs.declared.header.Header.{Header}
 use Rattle.packets.specs.declared.path.Path.{Path}
 use Rattle.packets.specs.declared.reading.End.{End}
 use Rattle.unit.specs.Some.{some}
-use Rattle.unit.specs.Fate.{isSuccess, orElse}
-use Rattle.unit.specs.Fields.{fieldOf, named, isMissing}
-use Rattle.unit.specs.Decide.{kindIn, isRmw, isRead, openingStatus, isAuthorised, spanStatus, isFieldLength, fieldCount, namesFields, offenceIn, isAllowed, fieldsStatus}
+use Rattle.unit.specs.Fate.{byteOf, isSuccess, orElse}
+use Rattle.unit.specs.Fields.{fieldOf, named, isMissing, rightOf, offenceOf, writeOffence, swapOffence}
+use Rattle.unit.specs.Decide.{kindIn, isUnused, isRmw, isRead, openingStatus, isAuthorised, spanStatus, isFieldLength, fieldCount, namesFields, offenceIn, isAllowed, fieldsStatus}
 use Rattle.unit.specs.Decide.{headerStatus, wantedCount, dataStatus}
 use Rattle.unit.specs.Granted.{WordsThere}
 use Rattle.unit.specs.Plan.{memoryAction, fieldAction, plannedFor, decidedByData, decided}
 use Rattle.unit.specs.declared.decide.Action.{Action}
 use Rattle.unit.specs.declared.decide.Plan.{Plan}
 use Rattle.unit.specs.declared.fate.Status.{Status}
-use Rattle.unit.specs.declared.fate.Status.the-variants.{Success, DataCrc, EarlyEop, TooMuchData, EndedByEep, VerifyOverrun, NotAuthorised, RmwLength, NotOwner, NoSuchField}
+use Rattle.unit.specs.declared.fate.Status.the-variants.{Success, UnusedCode, WrongKey, DataCrc, EarlyEop, TooMuchData, EndedByEep, VerifyOverrun}
+use Rattle.unit.specs.declared.fate.Status.the-variants.{NotAuthorised, RmwLength, WrongAddress, NotOwner, NoSuchField}
+use Rattle.unit.specs.declared.fields.Right.{Right}
+use Rattle.unit.specs.declared.fields.Right.the-variants.{Missing, ReadOnly, Swapped, Written}
 use Rattle.unit.specs.declared.windows.Windows.{Windows}
 use Rattle.unit.specs.declared.owner.Owner.{Owner}
 use Rattle.unit.specs.declared.unit.Unit.{Unit as TheUnit}
 use Rattle.unit.proofs.FateLaws.{passed, or-else}
 use Rattle.unit.proofs.FieldLaws.{one-field}
+
+-- ---- the write bit is that of the kind
+
+abbrev pub writes : Kind → Bool
+writes Unused = false
+writes Read = false
+writes ReadModifyWrite = false
+writes Write = true
+
+bit-high : (h : Header) → isWrite (h .instruction) ≡ leb 0b1000 (codeOf (h .instruction))
+bit-high h = go (leb 0b1000 (codeOf (h .instruction))) refl
+  where
+    bit : ℕ
+    bit = h .instruction .byte / 2 ^ 5 % 2
+
+    go : (t : Bool) → leb 0b1000 (codeOf (h .instruction)) ≡ t → eqb bit 1 ≡ t
+    go true e = let l = leb-true 0b1000 (codeOf (h .instruction)) e in eq-eqb bit 1 (omega (arith, l))
+    go false e = let l = leb-false 0b1000 (codeOf (h .instruction)) e in ne-eqb bit 1 (λ q. omega (arith, l, q))
+
+kind-high : (code : ℕ) → writes (kindOf code) ≡ leb 0b1000 code
+unfolding kindOf
+kind-high code = go (eqb code 0b0010) (eqb code 0b0011) (eqb code 0b0111) refl refl refl
+  where
+    go : (a b c : Bool) → eqb code 0b0010 ≡ a → eqb code 0b0011 ≡ b → eqb code 0b0111 ≡ c
+        → writes (cond (a || b) Read (cond c ReadModifyWrite (cond (leb 0b1000 code) Write Unused))) ≡ leb 0b1000 code
+    go true b c e f g = rw (eqb-true code 0b0010 e)
+    go false true c e f g = rw (eqb-true code 0b0011 f)
+    go false false true e f g = rw (eqb-true code 0b0111 g)
+    go false false false e f g = last (leb 0b1000 code)
+      where
+        last : (t : Bool) → writes (cond t Write Unused) ≡ t
+        last true = refl
+        last false = refl
+
+pub write-bit-is : (h : Header) → isWrite (h .instruction) ≡ writes (kindIn h)
+write-bit-is h = bit-high h ∙ sym (kind-high (codeOf (h .instruction)))
+
+pub write-bit : (h : Header) → kindIn h ≡ Write → isWrite (h .instruction) ≡ true
+write-bit h e = write-bit-is h ∙ ap writes e
 
 -- ---- what the header decides
 
@@ -101,6 +143,83 @@ one-word o h path link k s =
     let least = leb-true 4 (h .length) (second-true (eqb (h .length % 4) 0) (leb 4 (h .length)) four) in
     omega (arith, one, multiple, least)
 
+-- it gives none of 4, 5, 6 and 7, which are the data's
+abbrev Header's : Status → Type 0
+Header's s = some (eqb (byteOf s)) (4 ∷ 5 ∷ 6 ∷ 7 ∷ []) ≡ false
+
+one-or-other : (t : Bool) (s r : Status) → Header's s → Header's r → Header's (cond t s r)
+one-or-other true s r x y = x
+one-or-other false s r x y = y
+
+write-offence : (right : Right) → Header's (offenceOf right)
+write-offence Missing = refl
+write-offence ReadOnly = refl
+write-offence Swapped = refl
+write-offence Written = refl
+
+swap-offence : (right : Right) → Header's (swapOffence right)
+swap-offence Missing = refl
+swap-offence ReadOnly = refl
+swap-offence Swapped = refl
+swap-offence Written = refl
+
+write-offences : (l : List ℕ) → Header's (writeOffence l)
+write-offences [] = refl
+write-offences (address ∷ rest) =
+    let first = offenceOf (rightOf address) in
+    one-or-other (isSuccess first) (writeOffence rest) first (write-offences rest) (write-offence (rightOf address))
+
+offences : (kind : Kind) (address count : ℕ) → Header's (offenceIn kind address count)
+offences Unused address count = refl
+offences Read address count = refl
+offences ReadModifyWrite address count = swap-offence (rightOf address)
+offences Write address count = write-offences (named address count)
+
+three-checks : (a b c : Bool) (x y z : Status) → Header's x → Header's y → Header's z → Header's (cond a x (cond b y (cond c z Success)))
+three-checks true b c x y z p q r = p
+three-checks false true c x y z p q r = q
+three-checks false false true x y z p q r = r
+three-checks false false false x y z p q r = refl
+
+opening-gives : (h : Header) (key logical : ℕ) → Header's (openingStatus h key logical)
+unfolding openingStatus
+opening-gives h key logical =
+    three-checks (not (eqb (typeOf (h .instruction)) 1) || isUnused (kindIn h)) (not (eqb (h .key) key))
+    (not (eqb (h .target) logical) && not (eqb (h .target) 0xFE)) UnusedCode WrongKey WrongAddress refl refl refl
+
+span-gives : (w : Windows) (h : Header) → Header's (spanStatus w h)
+unfolding spanStatus
+span-gives w h =
+    three-checks (isRmw (kindIn h) && (ltb 8 (h .length) || not (eqb (h .length % 2) 0))) (not (isAuthorised w h))
+    (isWrite (h .instruction) && isVerified (h .instruction) && ltb 1024 (h .length)) RmwLength NotAuthorised VerifyOverrun refl refl refl
+
+fields-give : (o : Owner) (h : Header) (path : Path) (link : ℕ) → Header's (fieldsStatus o h path link)
+unfolding fieldsStatus
+fields-give o h path link =
+    let n = fieldCount (kindIn h) (h .length) in
+    go (not (namesFields h)) (some isMissing (named (h .address) n)) (not (isAllowed (kindIn h) o (h .initiator) path link))
+    (offenceIn (kindIn h) (h .address) n) (offences (kindIn h) (h .address) n)
+  where
+    go : (a b c : Bool) (x : Status) → Header's x → Header's (cond a NotAuthorised (cond b NoSuchField (orElse x (cond c NotOwner Success))))
+    go true b c x p = refl
+    go false true c x p = refl
+    go false false true x p = one-or-other (isSuccess x) NotOwner x refl p
+    go false false false x p = one-or-other (isSuccess x) Success x refl p
+
+pub header-gives : (u : TheUnit) (h : Header) (path : Path) (link : ℕ) → some (eqb (byteOf (headerStatus u h path link))) (4 ∷ 5 ∷ 6 ∷ 7 ∷ []) ≡ false
+unfolding headerStatus
+header-gives u h path link = go (eqb (h .protocol) 0x01)
+  where
+    memory : Status
+    memory = openingStatus h (u .key) (u .logical)
+
+    fields : Status
+    fields = openingStatus h 0x00 0xFE
+
+    go : (t : Bool) → Header's (cond t (orElse memory (spanStatus (u .windows) h)) (orElse fields (fieldsStatus (u .owner) h path link)))
+    go true = one-or-other (isSuccess memory) (spanStatus (u .windows) h) memory (span-gives (u .windows) h) (opening-gives h (u .key) (u .logical))
+    go false = one-or-other (isSuccess fields) (fieldsStatus (u .owner) h path link) fields (fields-give (u .owner) h path link) (opening-gives h 0x00 0xFE)
+
 -- ---- what the data decide
 
 pub data-passed : (bytes : List ℕ) (wanted : ℕ) (end : End) → isSuccess (dataStatus bytes wanted end) ≡ true
@@ -116,6 +235,23 @@ data-passed bytes wanted end s =
     let a = ltb-false (length bytes) wanted (two .0) in
     let b = ltb-false wanted (length bytes) (three .0) in
     (not-false (isEop end) (one .0), omega (arith, a, b), eqb-true (crc bytes) 0 (not-false (eqb (crc bytes) 0) (four .0)))
+
+-- they give 0, 4, 5, 6 or 7
+pub data-refuses : (bytes : List ℕ) (wanted : ℕ) (end : End) → isSuccess (dataStatus bytes wanted end) ≡ false
+    → some (eqb (byteOf (dataStatus bytes wanted end))) (4 ∷ 5 ∷ 6 ∷ 7 ∷ []) ≡ true
+unfolding dataStatus
+data-refuses bytes wanted end =
+    go (isEop end) (ltb (length bytes) wanted) (ltb wanted (length bytes)) (eqb (crc bytes) 0)
+  where
+    given : Bool → Bool → Bool → Bool → Status
+    given a b c d = cond (not a) EndedByEep (cond b EarlyEop (cond c TooMuchData (cond (not d) DataCrc Success)))
+
+    go : (a b c d : Bool) → isSuccess (given a b c d) ≡ false → some (eqb (byteOf (given a b c d))) (4 ∷ 5 ∷ 6 ∷ 7 ∷ []) ≡ true
+    go false b c d e = refl
+    go true true c d e = refl
+    go true false true d e = refl
+    go true false false false e = refl
+    go true false false true e = absurd (false≢true (sym e))
 
 -- the words of a swap and of a write to a field are there
 pub words-there : (h : Header) (p : List ℕ) (from : ℕ) (end : End) → from ≤ length p → namesFields h ≡ true

@@ -1,6 +1,6 @@
 -- Laws of fields.
 use mathlib.Core.Path.{_≡_, refl, sym, _∙_, ap}
-use mathlib.Core.Bool.{Bool, true, false, cond, _&&_, _||_}
+use mathlib.Core.Bool.{Bool, true, false, cond, _&&_, _||_, false≢true}
 use mathlib.Core.Logic.{_⊎_, inl, inr}
 use lib.Dec.{eqb, leb, ltb}
 use borrow.Author.Tests.{leb-true, ltb-true, eqb-true}
@@ -20,10 +20,11 @@ use Rattle.octets.proofs.Tabulate.{at}
 use Rattle.packets.specs.declared.instruction.Kind.{Kind}
 use Rattle.packets.specs.declared.instruction.Kind.the-variants.{Unused, Read, ReadModifyWrite, Write}
 use Rattle.unit.specs.Fate.{isSuccess, orElse}
-use Rattle.unit.specs.Fields.{aboveField, fieldOf, named, timeCodeCounter, divider, rowOf, rowRight, rightOf, offenceOf, writeOffence, fieldBytes}
+use Rattle.unit.specs.Fields.{aboveField, fieldOf, named, deviceId, timeCodeCounter, divider, missing, rowOf, rowRight, rightOf, offenceOf, writeOffence, swapOffence, fieldBytes}
 use Rattle.unit.specs.Decide.{kindIn, fieldCount, isFieldLength, namesFields}
 use Rattle.unit.specs.declared.fate.Status.{Status}
 use Rattle.unit.specs.declared.fate.Status.the-variants.{Success}
+use Rattle.unit.specs.declared.fields.Right.the-variants.{Missing, ReadOnly, Swapped, Written}
 use Rattle.unit.proofs.FateLaws.{or-else}
 
 -- what a command that names fields has shown
@@ -153,3 +154,17 @@ pub length-fields : (v l : List ℕ) → length (fieldBytes v l) ≡ 4 * length 
 length-fields v [] = refl
 length-fields v (x ∷ l) =
     length-append (bytesOf 4 (getD v (rowOf x) 0)) (fieldBytes v l) ∙ omega (arith, length-fields v l)
+
+-- ---- a swap that offends nothing is on Device ID
+
+pub swapped-row : (address : ℕ) → isSuccess (swapOffence (rightOf address)) ≡ true → rowOf address ≡ deviceId
+swapped-row address = go (eqb row missing) (eqb row deviceId) (eqb row timeCodeCounter || eqb row divider) refl
+  where
+    row : ℕ
+    row = rowOf address
+
+    go : (a b c : Bool) → eqb row deviceId ≡ b → isSuccess (swapOffence (cond a Missing (cond b Swapped (cond c Written ReadOnly)))) ≡ true → row ≡ deviceId
+    go true b c e f = absurd (false≢true f)
+    go false true c e f = eqb-true row deviceId e
+    go false false true e f = absurd (false≢true f)
+    go false false false e f = absurd (false≢true f)

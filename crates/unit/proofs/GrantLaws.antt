@@ -4,7 +4,7 @@ use mathlib.Core.Bool.{Bool, true, false, cond, not, _&&_, false≢true}
 use mathlib.Core.List.{List, [], _∷_}
 use Prim.Native.Nat.{ℕ, _+_, _-_, _/_, _%_, _^_, _≤_, min}
 use native.Mathlib.Omega.{arith}
-use borrow.Author.Tests.{leb-true, ltb-false, not-true}
+use borrow.Author.Tests.{leb-true, ltb-false, eqb-true, not-true}
 use lib.Dec.{eqb, leb}
 use lib.ListN.{length, drop, length-drop}
 use Rattle.octets.proofs.PlaceLaws.{first-true, second-true}
@@ -16,7 +16,7 @@ use Rattle.packets.specs.declared.path.Path.{Path}
 use Rattle.packets.specs.declared.reading.End.{End}
 use Rattle.unit.specs.Some.{some}
 use Rattle.unit.specs.Fate.{isSuccess}
-use Rattle.unit.specs.Windows.{hasRight, meets, used}
+use Rattle.unit.specs.Windows.{holds, hasRight, meets, used}
 use Rattle.unit.specs.Fields.{fieldOf}
 use Rattle.unit.specs.Usable.{usableUnit, usable}
 use Rattle.unit.specs.Decide.{kindIn, isRmw, isRead, spanSize, isAuthorised, fieldCount, isFieldLength, headerStatus, wantedCount, dataStatus}
@@ -24,6 +24,7 @@ use Rattle.unit.specs.Plan.{actionOf, memoryAction, fieldActionOf, field
 use Rattle.unit.specs.Granted.{Granted}
 use Rattle.unit.specs.declared.fate.Status.{Status}
 use Rattle.unit.specs.declared.windows.Window.{Window}
+use Rattle.unit.specs.declared.windows.Windows.{Windows}
 use Rattle.unit.specs.declared.windows.Question.the-variants.{EndsPast, Allows}
 use Rattle.unit.specs.declared.decide.Action.the-variants.{Nothing, ReadMemory, RepeatByte, Store, StoreLast, Combine}
 use Rattle.unit.specs.declared.unit.Unit.{Unit as TheUnit}
@@ -67,6 +68,20 @@ span-room u h n e a =
     let ws = used (u .windows) in
     let asked = some (meets (Allows (kindIn h) (h .address) (spanSize h))) ws in
     window-room (kindIn h) (h .address) (spanSize h) n ws (second-true (eqb (h .extended) 0) asked a) (usable-windows u n e)
+
+-- ---- one window holds an authorised span, with the right
+
+pub authorised-window : (w : Windows) (h : Header) → isAuthorised w h ≡ true
+    → some (λ x. holds x (h .address) (spanSize h) && hasRight (kindIn h) x) (used w) ≡ true
+unfolding isAuthorised
+authorised-window w h =
+    second-true (eqb (h .extended) 0) (some (λ x. holds x (h .address) (spanSize h) && hasRight (kindIn h) x) (used w))
+
+pub authorised-extended : (w : Windows) (h : Header) → isAuthorised w h ≡ true → h .extended ≡ 0
+unfolding isAuthorised
+authorised-extended w h e =
+    eqb-true (h .extended) 0
+    (first-true (eqb (h .extended) 0) (some (λ x. holds x (h .address) (spanSize h) && hasRight (kindIn h) x) (used w)) e)
 
 -- ---- the actions, kind by kind
 

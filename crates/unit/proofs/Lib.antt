@@ -8,6 +8,8 @@ pub mod PlanLaws
 pub mod GrantLaws
 pub mod MemoryLaws
 pub mod ReplyLaws
+pub mod CommandLaws
+pub mod CounterLaws
 pub mod CallLaws
 pub mod UsableLaws
 pub mod Examples

@@ -1,14 +1,18 @@
--- Laws of memory: it keeps its length, and a byte outside the span of a store stays.
-use mathlib.Core.Path.{_≡_, refl, _∙_}
+-- Laws of memory: it keeps its length; a command reads and stores only in its span; and of the refused ones only a write without verify stores.
+use mathlib.Core.Path.{_≡_, refl, sym, _∙_, ap}
 use mathlib.Core.Bool.{Bool, true, false, cond, not, _&&_}
 use mathlib.Core.Logic.{_⊎_, inl, inr}
-use mathlib.Core.List.{List}
-use Prim.Native.Nat.{ℕ, _+_, _-_, _/_, _<_, _≤_, min}
+use mathlib.Core.List.{List, []}
+use Prim.Native.Nat.{ℕ, zero, suc, _+_, _-_, _/_, _<_, _≤_, min}
 use native.Mathlib.Omega.{arith}
-use lib.ListN.{length, getD, drop, length-drop}
+use native.Mathlib.Decide.{decLe}
+use native.Mathlib.Nat.{lt-of-not-le}
+use lib.ListN.{length, getD, drop, replicate, length-drop}
+use lib.Seq.{ext-getD}
 use Rattle.octets.specs.Places.{part, placed}
-use Rattle.octets.proofs.PlaceLaws.{length-part, length-placed, placed-before, placed-after}
+use Rattle.octets.proofs.PlaceLaws.{length-part, part-at, length-placed, placed-before, placed-in, placed-after}
 use Rattle.packets.specs.Instruction.{isVerified, isIncrementing, headerSize}
+use Rattle.packets.specs.declared.instruction.Instruction.{Instruction}
 use Rattle.packets.specs.declared.instruction.Kind.{Kind}
 use Rattle.packets.specs.declared.instruction.Kind.the-variants.{Unused, Read, ReadModifyWrite, Write}
 use Rattle.packets.specs.declared.header.Header.{Header}
@@ -16,17 +20,17 @@ use Rattle.packets.specs.declared.path.Path.{Path}
 use Rattle.packets.specs.declared.reading.End.{End}
 use Rattle.unit.specs.Fate.{isSuccess}
 use Rattle.unit.specs.Usable.{usable}
-use Rattle.unit.specs.Decide.{kindIn, isRmw, spanSize, wantedCount, dataStatus}
-use Rattle.unit.specs.Plan.{actionOf, fieldActionOf, decided}
-use Rattle.unit.specs.Act.{combined, lastOf, stored}
-use Rattle.unit.specs.Granted.{Storable}
+use Rattle.unit.specs.Decide.{kindIn, isRmw, spanSize, headerStatus, wantedCount, dataStatus}
+use Rattle.unit.specs.Plan.{readAction, rmwAction, writeAction, actionOf, memoryAction, fieldActionOf}
+use Rattle.unit.specs.Act.{combined, lastOf, stored, dataFor}
+use Rattle.unit.specs.Granted.{Readable, Storable}
 use Rattle.unit.specs.declared.fate.Status.{Status}
 use Rattle.unit.specs.declared.decide.Action.{Action}
 use Rattle.unit.specs.declared.decide.Action.the-variants.{Nothing, ReadMemory, RepeatByte, Store, StoreLast, Combine, ReadFields, Swap, WriteField}
 use Rattle.unit.specs.declared.unit.Unit.{Unit as TheUnit}
 use Rattle.unit.proofs.ActLaws.{length-now}
-use Rattle.unit.proofs.PlanLaws.{decided-has}
-use Rattle.unit.proofs.GrantLaws.{granted}
+use Rattle.unit.proofs.DecideLaws.{writes}
+use Rattle.unit.proofs.GrantLaws.{accepted-memory}
 
 -- ---- the bytes that an action puts into memory
 
@@ -51,24 +55,24 @@ stored-length (ReadFields address count) p m g = refl
 stored-length (Swap new expected) p m g = refl
 stored-length (WriteField address word) p m g = refl
 
--- an action stores only in the `size` bytes from `at` on
-abbrev pub StoresIn : ℕ → ℕ → Action → Type 0
-StoresIn at size Nothing = Unit
-StoresIn at size (ReadMemory place count) = Unit
-StoresIn at size (RepeatByte place count) = Unit
-StoresIn at size (Store place from count) = (place ≡ at) × (count ≤ size)
-StoresIn at size (StoreLast place from count) = (place ≡ at) × (min count 1 ≤ size)
-StoresIn at size (Combine place from count) = (place ≡ at) × (count ≤ size)
-StoresIn at size (ReadFields address count) = Unit
-StoresIn at size (Swap new expected) = Unit
-StoresIn at size (WriteField address word) = Unit
+-- an action reads and stores only in the `size` bytes of memory from `at` on
+abbrev pub StaysIn : ℕ → ℕ → Action → Type 0
+StaysIn at size Nothing = Unit
+StaysIn at size (ReadMemory place count) = (place ≡ at) × (count ≤ size)
+StaysIn at size (RepeatByte place count) = (place ≡ at) × (min count 1 ≤ size)
+StaysIn at size (Store place from count) = (place ≡ at) × (count ≤ size)
+StaysIn at size (StoreLast place from count) = (place ≡ at) × (min count 1 ≤ size)
+StaysIn at size (Combine place from count) = (place ≡ at) × (count ≤ size)
+StaysIn at size (ReadFields address count) = Unit
+StaysIn at size (Swap new expected) = Unit
+StaysIn at size (WriteField address word) = Unit
 
 outside : (place : ℕ) (bytes m : List ℕ) (i at size n : ℕ) → place + length bytes ≤ length m → length bytes ≡ n → place ≡ at → n ≤ size
     → (i < at) ⊎ (at + size ≤ i) → getD (placed place bytes m) i 0 ≡ getD m i 0
 outside place bytes m i at size n fits l e s (inl h) = placed-before place bytes m fits i (omega (arith, e))
 outside place bytes m i at size n fits l e s (inr h) = placed-after place bytes m fits i (omega (arith, e, l))
 
-pub stored-outside : (a : Action) (p m : List ℕ) (at size i : ℕ) → Storable a (length p) (length m) → StoresIn at size a → (i < at) ⊎ (at + size ≤ i)
+pub stored-outside : (a : Action) (p m : List ℕ) (at size i : ℕ) → Storable a (length p) (length m) → StaysIn at size a → (i < at) ⊎ (at + size ≤ i)
     → getD (stored a p m) i 0 ≡ getD m i 0
 unfolding stored
 stored-outside Nothing p m at size i g w o = refl
@@ -88,58 +92,218 @@ stored-outside (ReadFields address count) p m at size i g w o = refl
 stored-outside (Swap new expected) p m at size i g w o = refl
 stored-outside (WriteField address word) p m at size i g w o = refl
 
--- ---- a command stores only in its span
+-- ---- two memories of one length that agree on those bytes
 
-read-in : (t s : Bool) (at size place count : ℕ) → StoresIn at size (cond t (cond s (ReadMemory place count) (RepeatByte place count)) Nothing)
-read-in true true at size place count = tt
-read-in true false at size place count = tt
-read-in false s at size place count = tt
+module _ (m n : List ℕ) (same : length m ≡ length n) where
+  part-alike : (at count : ℕ) → at + count ≤ length m → ((i : ℕ) → i < count → getD m (at + i) 0 ≡ getD n (at + i) 0)
+      → part at count m ≡ part at count n
+  part-alike at count fits alike =
+      let l = length-part at count m fits in
+      ext-getD 0 (part at count m) (part at count n) (l ∙ sym (length-part at count n (omega arith)))
+      (λ i h.
+      let k : i < count = omega arith in
+      part-at at count m i k ∙ alike i k ∙ sym (part-at at count n i k))
 
-rmw-in : (t : Bool) (at from count : ℕ) → StoresIn at count (cond t (Combine at from count) Nothing)
-rmw-in true at from count = (refl, omega arith)
-rmw-in false at from count = tt
+  placed-alike : (at : ℕ) (bytes : List ℕ) → at + length bytes ≤ length m → (i : ℕ) → getD m i 0 ≡ getD n i 0
+      → getD (placed at bytes m) i 0 ≡ getD (placed at bytes n) i 0
+  placed-alike at bytes fits i e = go (decLe at i) (decLe (at + length bytes) i)
+    where
+      room : at + length bytes ≤ length n
+      room = omega arith
 
-write-in : (t s : Bool) (at from k n : ℕ)
-    → StoresIn at (cond s n (min n 1)) (cond t Nothing (cond s (Store at from (min k n)) (StoreLast at from (min k n))))
-write-in true s at from k n = tt
-write-in false true at from k n = (refl, omega arith)
-write-in false false at from k n = (refl, omega arith)
+      go : Dec (at ≤ i) → Dec (at + length bytes ≤ i) → getD (placed at bytes m) i 0 ≡ getD (placed at bytes n) i 0
+      go (no h) k = let b = lt-of-not-le h in placed-before at bytes m fits i b ∙ e ∙ sym (placed-before at bytes n room i b)
+      go (yes h) (yes k) = placed-after at bytes m fits i k ∙ e ∙ sym (placed-after at bytes n room i k)
+      go (yes h) (no k) =
+          let l = lt-of-not-le k in
+          let j : at + (i - at) ≡ i = omega (arith, h) in
+          let inside : i - at < length bytes = omega (arith, h, l) in
+          rw j at (placed-in at bytes m fits (i - at) inside ∙ sym (placed-in at bytes n room (i - at) inside))
 
-action-in : (kind : Kind) (h : Header) (s : Status) (from k : ℕ)
-    → StoresIn (h .address) (cond (isRmw kind) (h .length / 2) (cond (isIncrementing (h .instruction)) (h .length) (min (h .length) 1))) (actionOf kind h s from k)
-action-in Unused h s from k = tt
-action-in Read h s from k = read-in (isSuccess s) (isIncrementing (h .instruction)) (h .address) _ (h .address) (h .length)
-action-in ReadModifyWrite h s from k = rmw-in (isSuccess s) (h .address) from (h .length / 2)
-action-in Write h s from k =
-    write-in (isVerified (h .instruction) && not (isSuccess s)) (isIncrementing (h .instruction)) (h .address) from k (h .length)
+  module _ (at size : ℕ) (alike : (i : ℕ) → at ≤ i → i < at + size → getD m i 0 ≡ getD n i 0) where
+    same-part : (place count : ℕ) → place ≡ at → count ≤ size → place + count ≤ length m → part place count m ≡ part place count n
+    same-part place count e s fits = part-alike place count fits (λ i h. alike (place + i) (omega (arith, e)) (omega (arith, e, s, h)))
 
-field-in : (t : Bool) (kind : Kind) (h : Header) (p : List ℕ) (from at size : ℕ) → StoresIn at size (cond t (fieldActionOf kind h p from) Nothing)
-field-in false kind h p from at size = tt
-field-in true Unused h p from at size = tt
-field-in true Read h p from at size = tt
-field-in true ReadModifyWrite h p from at size = tt
-field-in true Write h p from at size = tt
+    -- the data of a reply are the same
+    pub data-alike : (a : Action) (u : TheUnit) (link : ℕ) → StaysIn at size a → Readable a (length m) → dataFor a u link m ≡ dataFor a u link n
+    unfolding dataFor
+    data-alike Nothing u link w g = refl
+    data-alike (ReadMemory place count) u link w g = same-part place count (w .0) (w .1) g
+    data-alike (RepeatByte place zero) u link w g = refl
+    data-alike (RepeatByte place (suc count)) u link w g =
+        ap (λ (b : ℕ). replicate (suc count) b) (alike place (omega (arith, w .0)) (omega (arith, w .0, w .1)))
+    data-alike (Store place from count) u link w g = refl
+    data-alike (StoreLast place from count) u link w g = refl
+    data-alike (Combine place from count) u link w g = same-part place count (w .0) (w .1) g
+    data-alike (ReadFields address count) u link w g = refl
+    data-alike (Swap new expected) u link w g = refl
+    data-alike (WriteField address word) u link w g = refl
 
-pub span-stores : (u : TheUnit) (h : Header) (path : Path) (p : List ℕ) (end : End) (link room : ℕ)
-    → StoresIn (h .address) (spanSize h) (decided u h path p end link room .action)
-unfolding spanSize
-span-stores u h path p end link room =
-    decided-has u h path p end link room (λ s a. StoresIn (h .address) (spanSize h) a) (λ s. tt)
-    (λ q s. action-in (kindIn h) h (dataStatus (drop from p) (wantedCount h) end) from (length p - from))
-    (λ q s. field-in (isSuccess (dataStatus (drop from p) (wantedCount h) end)) (kindIn h) h p from (h .address) (spanSize h))
+    -- and so is what is stored there
+    pub stored-alike : (a : Action) (p : List ℕ) (i : ℕ) → StaysIn at size a → Storable a (length p) (length m) → at ≤ i → i < at + size
+        → getD (stored a p m) i 0 ≡ getD (stored a p n) i 0
+    unfolding stored
+    stored-alike Nothing p i w g b l = alike i b l
+    stored-alike (ReadMemory place count) p i w g b l = alike i b l
+    stored-alike (RepeatByte place count) p i w g b l = alike i b l
+    stored-alike (Store place from count) p i w g b l =
+        placed-alike place (part from count p) (omega (arith, length-part from count p (g .1), g .0)) i (alike i b l)
+    stored-alike (StoreLast place from count) p i w g b l =
+        placed-alike place (lastOf (part from count p)) (omega (arith, length-last (part from count p), length-part from count p (g .1), g .0)) i (alike i b l)
+    stored-alike (Combine place from count) p i w g b l =
+        rw (← same-part place count (w .0) (w .1) (g .0))
+        (placed-alike place (combined (part place count m) (part from count p) (part (from + count) count p))
+        (omega (arith, length-now p m from count place (g .0) (g .1), g .0)) i (alike i b l))
+    stored-alike (ReadFields address count) p i w g b l = alike i b l
+    stored-alike (Swap new expected) p i w g b l = alike i b l
+    stored-alike (WriteField address word) p i w g b l = alike i b l
+
+-- ---- a memory command stays in its span
+
+read-stays : (t s : Bool) (at n : ℕ) → StaysIn at (cond s n (min n 1)) (cond t (cond s (ReadMemory at n) (RepeatByte at n)) Nothing)
+read-stays true true at n = (refl, omega arith)
+read-stays true false at n = (refl, omega arith)
+read-stays false s at n = tt
+
+rmw-stays : (t : Bool) (at from count : ℕ) → StaysIn at count (cond t (Combine at from count) Nothing)
+rmw-stays true at from count = (refl, omega arith)
+rmw-stays false at from count = tt
+
+write-stays : (t s : Bool) (at from k n : ℕ)
+    → StaysIn at (cond s n (min n 1)) (cond t Nothing (cond s (Store at from (min k n)) (StoreLast at from (min k n))))
+write-stays true s at from k n = tt
+write-stays false true at from k n = (refl, omega arith)
+write-stays false false at from k n = (refl, omega arith)
+
+action-stays : (kind : Kind) (h : Header) (s : Status) (from k : ℕ)
+    → StaysIn (h .address) (cond (isRmw kind) (h .length / 2) (cond (isIncrementing (h .instruction)) (h .length) (min (h .length) 1))) (actionOf kind h s from k)
+action-stays Unused h s from k = tt
+action-stays Read h s from k = read-stays (isSuccess s) (isIncrementing (h .instruction)) (h .address) (h .length)
+action-stays ReadModifyWrite h s from k = rmw-stays (isSuccess s) (h .address) from (h .length / 2)
+action-stays Write h s from k =
+    write-stays (isVerified (h .instruction) && not (isSuccess s)) (isIncrementing (h .instruction)) (h .address) from k (h .length)
+
+-- an accepted memory command: what it leaves of memory m, and of a memory that is like m in its span
+module _ (u : TheUnit) (h : Header) (path : Path) (p : List ℕ) (end : End) (link : ℕ) (m : List ℕ) (works : usable u (length m) ≡ true)
+    (whole : headerSize (h .instruction) ≤ length p) (rmap : h .protocol ≡ 0x01) (accepted : isSuccess (headerStatus u h path link) ≡ true) where
+  abbrev action : Action
+  action = memoryAction h (dataStatus (drop (headerSize (h .instruction)) p) (wantedCount h) end) (headerSize (h .instruction)) (length p - headerSize (h .instruction))
+
+  pub stays : StaysIn (h .address) (spanSize h) action
+  unfolding spanSize
+  stays =
+      action-stays (kindIn h) h (dataStatus (drop (headerSize (h .instruction)) p) (wantedCount h) end) (headerSize (h .instruction))
+      (length p - headerSize (h .instruction))
+
+  pub memory-length : length (stored action p m) ≡ length m
+  memory-length = stored-length action p m (accepted-memory u h path p end link (length m) works whole rmap accepted .1)
+
+  pub memory-outside : (i : ℕ) → (i < h .address) ⊎ (h .address + spanSize h ≤ i) → getD (stored action p m) i 0 ≡ getD m i 0
+  memory-outside i =
+      stored-outside action p m (h .address) (spanSize h) i (accepted-memory u h path p end link (length m) works whole rmap accepted .1) stays
+
+  module _ (n : List ℕ) (same : length m ≡ length n)
+      (alike : (i : ℕ) → h .address ≤ i → i < h .address + spanSize h → getD m i 0 ≡ getD n i 0) where
+    pub span-data : dataFor action u link m ≡ dataFor action u link n
+    span-data =
+        data-alike m n same (h .address) (spanSize h) alike action u link stays (accepted-memory u h path p end link (length m) works whole rmap accepted .0)
+
+    pub span-stored : (i : ℕ) → h .address ≤ i → i < h .address + spanSize h → getD (stored action p m) i 0 ≡ getD (stored action p n) i 0
+    span-stored i b l =
+        stored-alike m n same (h .address) (spanSize h) alike action p i stays (accepted-memory u h path p end link (length m) works whole rmap accepted .1) b l
+
+-- ---- what each kind of command stores, and what it answers
+
+pub nothing-stores : (p m : List ℕ) → stored Nothing p m ≡ m
+unfolding stored
+nothing-stores p m = refl
+
+-- a read stores nothing, and answers its bytes, or its byte over and over
+module _ (i : Instruction) (s : Status) (at n : ℕ) where
+  pub read-stores : (p m : List ℕ) → stored (readAction i s at n) p m ≡ m
+  unfolding stored
+  read-stores p m = go (isSuccess s) (isIncrementing i)
+    where
+      go : (t b : Bool) → stored (cond t (cond b (ReadMemory at n) (RepeatByte at n)) Nothing) p m ≡ m
+      go true true = refl
+      go true false = refl
+      go false b = refl
+
+  pub read-data : (u : TheUnit) (link : ℕ) (m : List ℕ) → isSuccess s ≡ true
+      → dataFor (readAction i s at n) u link m ≡ cond (isIncrementing i) (part at n m) (replicate n (getD m at 0))
+  unfolding dataFor
+  read-data u link m e = rw e (go (isIncrementing i))
+    where
+      go : (b : Bool) → dataFor (cond b (ReadMemory at n) (RepeatByte at n)) u link m ≡ cond b (part at n m) (replicate n (getD m at 0))
+      go true = refl
+      go false = refl
+
+-- an RMW that is obeyed stores what it combines, and answers what it read
+module _ (s : Status) (at from n : ℕ) where
+  pub rmw-stores : (p m : List ℕ) → stored (rmwAction s at from n) p m ≡ cond (isSuccess s) (placed at (combined (part at n m) (part from n p) (part (from + n) n p)) m) m
+  unfolding stored
+  rmw-stores p m = go (isSuccess s)
+    where
+      go : (t : Bool) → stored (cond t (Combine at from n) Nothing) p m ≡ cond t (placed at (combined (part at n m) (part from n p) (part (from + n) n p)) m) m
+      go true = refl
+      go false = refl
+
+  pub rmw-data : (u : TheUnit) (link : ℕ) (m : List ℕ) → isSuccess s ≡ true → dataFor (rmwAction s at from n) u link m ≡ part at n m
+  unfolding dataFor
+  rmw-data u link m e = rw e
+
+-- a write stores, unless it is verified and refused, and answers no data
+module _ (i : Instruction) (s : Status) (at from n : ℕ) where
+  pub write-stores : (p m : List ℕ)
+      → stored (writeAction i s at from n) p m ≡ cond (isVerified i && not (isSuccess s)) m (placed at (cond (isIncrementing i) (part from n p) (lastOf (part from n p))) m)
+  unfolding stored
+  write-stores p m = go (isVerified i && not (isSuccess s)) (isIncrementing i)
+    where
+      go : (t b : Bool) → stored (cond t Nothing (cond b (Store at from n) (StoreLast at from n))) p m ≡ cond t m (placed at (cond b (part from n p) (lastOf (part from n p))) m)
+      go true b = refl
+      go false true = refl
+      go false false = refl
+
+  pub write-data : (u : TheUnit) (link : ℕ) (m : List ℕ) → dataFor (writeAction i s at from n) u link m ≡ []
+  unfolding dataFor
+  write-data u link m = go (isVerified i && not (isSuccess s)) (isIncrementing i)
+    where
+      go : (t b : Bool) → dataFor (cond t Nothing (cond b (Store at from n) (StoreLast at from n))) u link m ≡ []
+      go true b = refl
+      go false true = refl
+      go false false = refl
+
+-- so what stores is a write or an RMW
+pub storing-kind : (kind : Kind) (h : Header) (s : Status) (p m : List ℕ) (from k : ℕ)
+    → (stored (actionOf kind h s from k) p m ≡ m) ⊎ ((kind ≡ Write) ⊎ (kind ≡ ReadModifyWrite))
+storing-kind Unused h s p m from k = inl (nothing-stores p m)
+storing-kind Read h s p m from k = inl (read-stores (h .instruction) s (h .address) (h .length) p m)
+storing-kind ReadModifyWrite h s p m from k = inr (inr refl)
+storing-kind Write h s p m from k = inr (inl refl)
+
+-- and of the refused commands a write without verify
+pub refused-stores : (kind : Kind) (h : Header) (s : Status) (p m : List ℕ) (from k : ℕ) → isSuccess s ≡ false
+    → stored (actionOf kind h s from k) p m
+    ≡ cond (writes kind && not (isVerified (h .instruction)))
+    (placed (h .address) (cond (isIncrementing (h .instruction)) (part from (min k (h .length)) p) (lastOf (part from (min k (h .length)) p))) m) m
+refused-stores Unused h s p m from k e = nothing-stores p m
+refused-stores Read h s p m from k e = read-stores (h .instruction) s (h .address) (h .length) p m
+refused-stores ReadModifyWrite h s p m from k e = rmw-stores s (h .address) from (h .length / 2) p m ∙ rw e
+refused-stores Write h s p m from k e =
+    write-stores (h .instruction) s (h .address) from (min k (h .length)) p m ∙ rw e (go (isVerified (h .instruction)))
   where
-    from : ℕ
-    from = headerSize (h .instruction)
+    new : List ℕ
+    new = placed (h .address) (cond (isIncrementing (h .instruction)) (part from (min k (h .length)) p) (lastOf (part from (min k (h .length)) p))) m
 
--- memory keeps its length under every command, and a byte outside the span stays
-module _ (u : TheUnit) (h : Header) (path : Path) (p : List ℕ) (end : End) (link room : ℕ) (m : List ℕ)
-    (works : usable u (length m) ≡ true) (whole : headerSize (h .instruction) ≤ length p) where
-  pub command-length : length (stored (decided u h path p end link room .action) p m) ≡ length m
-  command-length =
-      stored-length (decided u h path p end link room .action) p m (granted u h path p end link (length m) works whole room .1)
+    go : (v : Bool) → cond (v && true) m new ≡ cond (not v) new m
+    go true = refl
+    go false = refl
 
-  pub command-outside : (i : ℕ) → (i < h .address) ⊎ (h .address + spanSize h ≤ i)
-      → getD (stored (decided u h path p end link room .action) p m) i 0 ≡ getD m i 0
-  command-outside i =
-      stored-outside (decided u h path p end link room .action) p m (h .address) (spanSize h) i
-      (granted u h path p end link (length m) works whole room .1) (span-stores u h path p end link room)
+-- a field command does not
+pub fields-store-none : (t : Bool) (kind : Kind) (h : Header) (p m : List ℕ) (from : ℕ) → stored (cond t (fieldActionOf kind h p from) Nothing) p m ≡ m
+unfolding stored
+fields-store-none false kind h p m from = refl
+fields-store-none true Unused h p m from = refl
+fields-store-none true Read h p m from = refl
+fields-store-none true ReadModifyWrite h p m from = refl
+fields-store-none true Write h p m from = refl

@@ -1,41 +1,63 @@
 -- Laws of plans: what holds of every plan, from what holds of what its halves chose.
-use mathlib.Core.Path.{_≡_, refl}
-use mathlib.Core.Bool.{Bool, true, false, cond}
+use mathlib.Core.Path.{_≡_, refl, sym, _∙_, ap}
+use mathlib.Core.Bool.{Bool, true, false, cond, false≢true}
+use mathlib.Core.Logic.{_↔_}
 use mathlib.Core.List.{List}
-use Prim.Native.Nat.{ℕ, _-_}
-use borrow.Author.Tests.{eqb-true, eqb-false}
+use Prim.Native.Nat.{ℕ, _-_, _<_, _≤_}
+use native.Mathlib.Omega.{arith}
+use borrow.Author.Tests.{ltb-true, ltb-false, eqb-true, eqb-false}
 use lib.Dec.{eqb, ltb}
 use lib.ListN.{length, drop}
-use Rattle.packets.specs.Instruction.{isVerified, isIncrementing, wantsReply, headerSize}
+use Rattle.packets.specs.Instruction.{wantsReply, headerSize}
 use Rattle.packets.specs.Reply.{replyLength}
-use Rattle.packets.specs.declared.instruction.Kind.{Kind}
-use Rattle.packets.specs.declared.instruction.Kind.the-variants.{Unused, Read, ReadModifyWrite, Write}
 use Rattle.packets.specs.declared.header.Header.{Header}
 use Rattle.packets.specs.declared.path.Path.{Path}
 use Rattle.packets.specs.declared.reading.End.{End}
-use Rattle.unit.specs.Fate.{byteOf, isSuccess}
-use Rattle.unit.specs.Decide.{kindIn, headerStatus, wantedCount, dataStatus}
-use Rattle.unit.specs.Plan.{actionOf, memoryAction, fieldActionOf, fieldAction, replyCount, plannedFor, decidedByData, decided}
-use Rattle.unit.specs.Act.{stored, withCounters}
+use Rattle.unit.specs.Fate.{byteOf, isSuccess, orElse, fateNumber}
+use Rattle.unit.specs.Decide.{headerStatus, wantedCount, dataStatus}
+use Rattle.unit.specs.Plan.{memoryAction, fieldAction, replyCount, plannedFor, decidedByData, decided}
 use Rattle.unit.specs.declared.fate.Status.{Status}
+use Rattle.unit.specs.declared.fate.Fate.{Fate}
+use Rattle.unit.specs.declared.fate.Fate.the-variants.{TimeChanged, Unusable, NoSuchLink, NoRoom, Unread, TimeThrownAway, NotObeyed, Obeyed, TimeTaken, Replied}
 use Rattle.unit.specs.declared.decide.Action.{Action}
-use Rattle.unit.specs.declared.decide.Action.the-variants.{Nothing, ReadMemory, RepeatByte}
+use Rattle.unit.specs.declared.decide.Action.the-variants.{Nothing}
 use Rattle.unit.specs.declared.decide.Plan.{Plan}
 use Rattle.unit.specs.declared.unit.Unit.{Unit as TheUnit}
 
--- ---- a plan has the status it is given, and does what was to be done, or nothing
+-- ---- a plan is one of four: no room for its reply, a reply, or, where none was asked for, obeyed or refused
 
-one-of : (P : Status → Action → Type 0) (t s : Bool) (a b c : Plan) → P (a .status) (a .action) → P (b .status) (b .action) → P (c .status) (c .action)
-    → P (cond t (cond s a b) c .status) (cond t (cond s a b) c .action)
-one-of P true true a b c x y z = x
-one-of P true false a b c x y z = y
-one-of P false s a b c x y z = z
+module _ (h : Header) (path : Path) (s : Status) (a : Action) (room : ℕ) where
+  abbrev due : ℕ
+  due = replyLength path h (byteOf s) (replyCount h)
 
+  pub planned-is : (Q : Plan → Type 0)
+      → (wantsReply (h .instruction) ≡ true → room < due → Q (record { fate = NoRoom; status = s; action = Nothing; length = 0 }))
+      → (wantsReply (h .instruction) ≡ true → due ≤ room → Q (record { fate = Replied s; status = s; action = a; length = due }))
+      → (wantsReply (h .instruction) ≡ false → isSuccess s ≡ true → Q (record { fate = Obeyed; status = s; action = a; length = 0 }))
+      → (wantsReply (h .instruction) ≡ false → isSuccess s ≡ false → Q (record { fate = NotObeyed s; status = s; action = a; length = 0 }))
+      → Q (plannedFor h path s a room)
+  unfolding plannedFor
+  planned-is Q none reply obeyed refused = go (wantsReply (h .instruction)) (ltb room due) (isSuccess s) refl refl refl
+    where
+      go : (w b o : Bool) → wantsReply (h .instruction) ≡ w → ltb room due ≡ b → isSuccess s ≡ o
+          → Q (cond w (cond b (record { fate = NoRoom; status = s; action = Nothing; length = 0 })
+          (record { fate = Replied s; status = s; action = a; length = due }))
+          (record { fate = cond o Obeyed (NotObeyed s); status = s; action = a; length = 0 }))
+      go true true o e f g = none e (ltb-true room due f)
+      go true false o e f g = reply e (ltb-false room due f)
+      go false b true e f g = obeyed e g
+      go false b false e f g = refused e g
+
+-- it has the status it is given, and does what was to be done, or nothing
 planned-has : (P : Status → Action → Type 0) (h : Header) (path : Path) (status : Status) (action : Action) (room : ℕ)
     → P status Nothing → P status action → P (plannedFor h path status action room .status) (plannedFor h path status action room .action)
-unfolding plannedFor
 planned-has P h path status action room none some =
-    one-of P (wantsReply (h .instruction)) (ltb room (replyLength path h (byteOf status) (replyCount h))) _ _ _ none some some
+    planned-is h path status action room (λ plan. P (plan .status) (plan .action)) (λ w l. none) (λ w l. some) (λ w e. some) (λ w e. some)
+
+-- ---- a decision
+
+abbrev status-in : Status → Fate → Status
+status-in s f = elim f [ TimeChanged ↦ s | Unusable ↦ s | NoSuchLink ↦ s | NoRoom ↦ s | Unread why ↦ s | TimeThrownAway ↦ s | NotObeyed t ↦ s | Obeyed ↦ s | TimeTaken ↦ s | Replied t ↦ t ]
 
 -- a plan is for one of three: the header's refusal, a memory action, or a field action that the header allowed
 module _ (u : TheUnit) (h : Header) (path : Path) (p : List ℕ) (end : End) (link room : ℕ) where
@@ -75,49 +97,55 @@ module _ (u : TheUnit) (h : Header) (path : Path) (p : List ℕ) (end : End) (li
       (λ e s. planned-has P h path status (memoryAction h status from (length p - from)) room (none status) (memory e s))
       (λ e s. planned-has P h path status (fieldAction h status p from) room (none status) (fields e s))
 
--- ---- a decision reads no counter (that it reads no memory, its type says)
+  -- its status is the header's, and the data's where the header has none
+  pub plan-status : decided u h path p end link room .status ≡ orElse (headerStatus u h path link) status
+  plan-status =
+      decided-is (λ plan. plan .status ≡ orElse (headerStatus u h path link) status) (λ a. given (headerStatus u h path link) Nothing ∙ rw a)
+      (λ e a. given status (memoryAction h status from (length p - from)) ∙ rw a) (λ e a. given status (fieldAction h status p from) ∙ rw a)
+    where
+      given : (s : Status) (a : Action) → plannedFor h path s a room .status ≡ s
+      given s a = planned-is h path s a room (λ plan. plan .status ≡ s) (λ w l. refl) (λ w l. refl) (λ w e. refl) (λ w e. refl)
 
-pub uncounted : (u : TheUnit) (c : List ℕ) (h : Header) (path : Path) (p : List ℕ) (end : End) (link room : ℕ)
-    → decided (withCounters u c) h path p end link room ≡ decided u h path p end link room
-unfolding decided headerStatus
-uncounted u c h path p end link room = refl
+  -- where the fate is 3, and nowhere else, the reply that is due is longer than the room
+  abbrev Roomless : Plan → Type 0
+  Roomless plan =
+      (fateNumber (plan .fate) ≡ 3) ↔ ((wantsReply (h .instruction) ≡ true) × (room < replyLength path h (byteOf (plan .status)) (replyCount h)))
 
--- ---- a refused verified write or RMW plans no store
+  pub roomless-plan : Roomless (decided u h path p end link room)
+  roomless-plan =
+      decided-is Roomless (λ a. planned (headerStatus u h path link) Nothing) (λ e a. planned status (memoryAction h status from (length p - from)))
+      (λ e a. planned status (fieldAction h status p from))
+    where
+      planned : (s : Status) (a : Action) → Roomless (plannedFor h path s a room)
+      planned s a =
+          planned-is h path s a room Roomless (λ w l. (λ n. (w, l), λ x. refl)) (λ w l. (λ n. absurd (omega (arith, n)), λ x. absurd (omega (arith, l, x .1))))
+          (λ w e. (λ n. absurd (omega (arith, n)), λ x. absurd (false≢true (sym w ∙ x .0)))) (λ w e. (λ n. absurd (omega (arith, n)), λ x. absurd (false≢true (sym w ∙ x .0))))
 
-read-stores-none : (t s : Bool) (at count : ℕ) (p m : List ℕ) → stored (cond t (cond s (ReadMemory at count) (RepeatByte at count)) Nothing) p m ≡ m
-unfolding stored
-read-stores-none true true at count p m = refl
-read-stores-none true false at count p m = refl
-read-stores-none false s at count p m = refl
+  -- where it is 20 its status is the plan's, and a reply was asked for
+  abbrev RepliesWith : Status → Plan → Type 0
+  RepliesWith s plan = plan .fate ≡ Replied s → (plan .status ≡ s) × (wantsReply (h .instruction) ≡ true)
 
-nothing-stores-none : (p m : List ℕ) → stored Nothing p m ≡ m
-unfolding stored
-nothing-stores-none p m = refl
+  pub replied-plan : (s : Status) → RepliesWith s (decided u h path p end link room)
+  replied-plan s =
+      decided-is (RepliesWith s) (λ a. planned (headerStatus u h path link) Nothing) (λ e a. planned status (memoryAction h status from (length p - from)))
+      (λ e a. planned status (fieldAction h status p from))
+    where
+      planned : (t : Status) (a : Action) → RepliesWith s (plannedFor h path t a room)
+      planned t a =
+          planned-is h path t a room (RepliesWith s) (λ w l f. absurd (omega (arith, ap fateNumber f))) (λ w l f. (ap (status-in t) f, w))
+          (λ w e f. absurd (omega (arith, ap fateNumber f))) (λ w e f. absurd (omega (arith, ap fateNumber f)))
 
-fields-store-none : (t : Bool) (kind : Kind) (h : Header) (p m : List ℕ) (from : ℕ) → stored (cond t (fieldActionOf kind h p from) Nothing) p m ≡ m
-unfolding stored
-fields-store-none false kind h p m from = refl
-fields-store-none true Unused h p m from = refl
-fields-store-none true Read h p m from = refl
-fields-store-none true ReadModifyWrite h p m from = refl
-fields-store-none true Write h p m from = refl
+  -- and where that is 0, what holds of the data of the action holds of the plan's
+  abbrev Carries : (Action → Type 0) → Plan → Type 0
+  Carries P plan = fateNumber (plan .fate) ≡ 20 → isSuccess (plan .status) ≡ true → P (plan .action)
 
-refused-action : (kind : Kind) (h : Header) (s : Status) (p m : List ℕ) (from k : ℕ) → isVerified (h .instruction) ≡ true → isSuccess s ≡ false
-    → stored (actionOf kind h s from k) p m ≡ m
-refused-action Unused h s p m from k v e = nothing-stores-none p m
-refused-action Read h s p m from k v e =
-    read-stores-none (isSuccess s) (isIncrementing (h .instruction)) (h .address) (h .length) p m
-refused-action ReadModifyWrite h s p m from k v e = rw e (nothing-stores-none p m)
-refused-action Write h s p m from k v e = rw (v, e) (nothing-stores-none p m)
-
--- bit 4 is set in a verified write and in an RMW
-pub refused-stores-none : (u : TheUnit) (h : Header) (path : Path) (p : List ℕ) (end : End) (link room : ℕ) (m : List ℕ)
-    → isVerified (h .instruction) ≡ true → isSuccess (decided u h path p end link room .status) ≡ false
-    → stored (decided u h path p end link room .action) p m ≡ m
-refused-stores-none u h path p end link room m v =
-    decided-has u h path p end link room (λ s a. isSuccess s ≡ false → stored a p m ≡ m) (λ s e. nothing-stores-none p m)
-    (λ q s e. refused-action (kindIn h) h (dataStatus (drop from p) (wantedCount h) end) p m from (length p - from) v e)
-    (λ q s e. fields-store-none (isSuccess (dataStatus (drop from p) (wantedCount h) end)) (kindIn h) h p m from)
-  where
-    from : ℕ
-    from = headerSize (h .instruction)
+  pub carried-plan : (P : Action → Type 0) → (h .protocol ≡ 0x01 → isSuccess status ≡ true → P (memoryAction h status from (length p - from)))
+      → ((h .protocol ≡ 0x01 → ⊥) → isSuccess status ≡ true → P (fieldAction h status p from)) → Carries P (decided u h path p end link room)
+  carried-plan P memory fields =
+      decided-is (Carries P) (λ a. planned (headerStatus u h path link) Nothing (λ e. absurd (false≢true (sym a ∙ e))))
+      (λ e a. planned status (memoryAction h status from (length p - from)) (memory e)) (λ e a. planned status (fieldAction h status p from) (fields e))
+    where
+      planned : (s : Status) (a : Action) → (isSuccess s ≡ true → P a) → Carries P (plannedFor h path s a room)
+      planned s a f =
+          planned-is h path s a room (Carries P) (λ w l n. absurd (omega (arith, n))) (λ w l n. f) (λ w e n. absurd (omega (arith, n)))
+          (λ w e n. absurd (omega (arith, n)))

@@ -1,15 +1,15 @@
 -- Laws of replies: what the plan counts is what is written. Where the fate is 20, all of the reply stands in the buffer.
-use mathlib.Core.Path.{_≡_, refl, sym, _∙_, ap}
+use mathlib.Core.Path.{_≡_, refl, sym, _∙_}
 use mathlib.Core.Bool.{Bool, true, false, cond, not, _&&_, _||_, false≢true}
 use mathlib.Core.List.{List}
 use Prim.Native.Nat.{ℕ, _+_, _-_, _/_, _%_, _^_, _<_, _≤_}
 use native.Mathlib.Omega.{arith}
-use borrow.Author.Tests.{lt-ltb, le-leb, leb-true, ltb-false, eqb-true, eq-eqb, not-true}
-use lib.Dec.{eqb, leb, ltb}
+use borrow.Author.Tests.{lt-ltb, le-leb, eqb-true, eq-eqb, not-true}
+use lib.Dec.{eqb, leb}
 use lib.ListN.{length, drop, getD, length-replicate}
 use Rattle.octets.specs.Places.{placed}
 use Rattle.octets.proofs.PlaceLaws.{length-part, first-true, second-true}
-use Rattle.packets.specs.Instruction.{typeOf, codeOf, kindOf, isWrite, isIncrementing, wantsReply, headerSize}
+use Rattle.packets.specs.Instruction.{typeOf, isWrite, isIncrementing, headerSize}
 use Rattle.packets.specs.Path.{pathBytes}
 use Rattle.packets.specs.Reply.{carriesData, carriedCount, replyOf, replyLength, replied}
 use Rattle.packets.specs.declared.instruction.Kind.{Kind}
@@ -27,38 +27,17 @@ use Rattle.unit.specs.Act.{dataFor, repliedTo}
 use Rattle.unit.specs.Granted.{Readable}
 use Rattle.unit.specs.declared.fate.Status.{Status}
 use Rattle.unit.specs.declared.fate.Status.the-variants.{Success, UnusedCode, WrongKey, WrongAddress}
-use Rattle.unit.specs.declared.fate.Fate.the-variants.{NoRoom, NotObeyed, Obeyed, Replied}
 use Rattle.unit.specs.declared.decide.Action.{Action}
 use Rattle.unit.specs.declared.decide.Action.the-variants.{Nothing, ReadMemory, RepeatByte}
 use Rattle.unit.specs.declared.decide.Plan.{Plan}
 use Rattle.unit.specs.declared.unit.Unit.{Unit as TheUnit}
 use Rattle.unit.proofs.FateLaws.{passed, or-else}
 use Rattle.unit.proofs.FieldLaws.{length-named, length-fields}
-use Rattle.unit.proofs.DecideLaws.{fields-passed, named-passed, names-length}
-use Rattle.unit.proofs.PlanLaws.{decided-is}
+use Rattle.unit.proofs.DecideLaws.{write-bit, fields-passed, named-passed, names-length}
+use Rattle.unit.proofs.PlanLaws.{planned-is, decided-is}
 use Rattle.unit.proofs.GrantLaws.{accepted-memory}
 
--- ---- the kind and the write bit
-
-abbrev rank : Kind → ℕ
-rank Unused = 0
-rank Read = 1
-rank ReadModifyWrite = 2
-rank Write = 3
-
--- only codes with the write bit write
-pub write-bit : (h : Header) → kindIn h ≡ Write → isWrite (h .instruction) ≡ true
-unfolding kindOf
-write-bit h e = go (eqb c 0b0010 || eqb c 0b0011) (eqb c 0b0111) (leb 0b1000 c) refl (ap rank e)
-  where
-    c : ℕ
-    c = codeOf (h .instruction)
-
-    go : (s t w : Bool) → leb 0b1000 c ≡ w → rank (cond s Read (cond t ReadModifyWrite (cond w Write Unused))) ≡ 3 → isWrite (h .instruction) ≡ true
-    go true t w f r = absurd (omega (arith, r))
-    go false true w f r = absurd (omega (arith, r))
-    go false false false f r = absurd (omega (arith, r))
-    go false false true f r = let l = leb-true 0b1000 c f in eq-eqb (h .instruction .byte / 2 ^ 5 % 2) 1 (omega (arith, l))
+-- ---- the code
 
 -- a header that was accepted has a code that is used
 used-code : (h : Header) (key logical : ℕ) → isSuccess (openingStatus h key logical) ≡ true → isUnused (kindIn h) ≡ false
@@ -138,20 +117,9 @@ module _ (u : TheUnit) (h : Header) (path : Path) (link : ℕ) (m : List ℕ) (r
 
   planned-counts : (s : Status) (a : Action) → (carriesData h (byteOf s) ≡ true → replyCount h ≡ length (dataFor a u link m))
       → Counted (plannedFor h path s a room)
-  unfolding plannedFor
-  planned-counts s a f = go (wantsReply (h .instruction)) (ltb room size) (isSuccess s) refl
-    where
-      size : ℕ
-      size = replyLength path h (byteOf s) (replyCount h)
-
-      go : (t w o : Bool) → ltb room size ≡ w
-          → Counted (cond t (cond w (record { fate = NoRoom; status = s; action = Nothing; length = 0 })
-          (record { fate = Replied s; status = s; action = a; length = size }))
-          (record { fate = cond o Obeyed (NotObeyed s); status = s; action = a; length = 0 }))
-      go true true o e n = absurd (omega (arith, n))
-      go true false o e n = (f, refl, ltb-false room size e)
-      go false w true e n = absurd (omega (arith, n))
-      go false w false e n = absurd (omega (arith, n))
+  planned-counts s a f =
+      planned-is h path s a room Counted (λ w l n. absurd (omega (arith, n))) (λ w l n. (f, refl, l)) (λ w e n. absurd (omega (arith, n)))
+      (λ w e n. absurd (omega (arith, n)))
 
   -- a refused command carries none
   refused-counts : (s : Status) (a : Action) → isSuccess s ≡ false → Counted (plannedFor h path s a room)
@@ -192,6 +160,7 @@ pub reply-written : (u : TheUnit) (h : Header) (path : Path) (p : List ℕ) (end
     ≡ length (replyOf path h (byteOf (decided u h path p end link (length r) .status)) (dataFor (decided u h path p end link (length r) .action) u link m)))
     × (repliedTo (decided u h path p end link (length r)) u h path link m r
     ≡ placed 0 (replyOf path h (byteOf (decided u h path p end link (length r) .status)) (dataFor (decided u h path p end link (length r) .action) u link m)) r)
+    × (decided u h path p end link (length r) .length ≤ length r)
 unfolding repliedTo replied replyCount
 reply-written u h path p end link m r works whole small n =
     let plan = decided u h path p end link (length r) in
@@ -202,6 +171,7 @@ reply-written u h path p end link m r works whole small n =
     let few : carriedCount h status (length d) < 256 ^ 3 = few-data (carriesData h status) (replyCount h) (length d) (c .0) (half (isRmw (kindIn h))) in (
       c .1 ∙ same ∙ sym (length-reply path h status d),
       rw (eq-eqb _ _ n, lt-ltb (carriedCount h status (length d)) (256 ^ 3) few, le-leb (replyLength path h status (length d)) (length r) (omega (arith, c .1, c .2, same))),
+      c .2,
     )
   where
     few-data : (t : Bool) (k l : ℕ) → (t ≡ true → k ≡ l) → k < 256 ^ 3 → cond t l 0 < 256 ^ 3

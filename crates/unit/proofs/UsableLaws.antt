@@ -31,14 +31,17 @@ use Rattle.packets.specs.declared.time.TimeReading.the-variants.{ThrownAway, Ta
 use Rattle.packets.proofs.PathLaws.{path-short}
 use Rattle.packets.proofs.TimeLaws.{time-twelve}
 use Rattle.unit.specs.Some.{some}
+use Rattle.unit.specs.Fate.{isSuccess}
 use Rattle.unit.specs.Windows.{meets, used}
 use Rattle.unit.specs.Usable.{fitsTime, usableUnit, usable}
 use Rattle.unit.specs.Clock.{timeOf, secondsOf, setAt, afterTime, atWrap, fractionSet, afterCode, afterTicks, timeCodeWritten}
 use Rattle.unit.specs.Owner.{unowned, swapped}
-use Rattle.unit.specs.Fields.{rowOf, timeCodeCounter, divider, dividerWritten}
-use Rattle.unit.specs.Plan.{decided}
-use Rattle.unit.specs.Act.{withClock, withFields, withOwner, fieldWritten, changed, countedUnit}
+use Rattle.unit.specs.Fields.{dividerWritten}
+use Rattle.unit.specs.Decide.{kindIn, wantedCount, dataStatus}
+use Rattle.unit.specs.Plan.{fieldAction}
+use Rattle.unit.specs.Act.{withClock, withFields, withOwner, changed, countedUnit}
 use Rattle.unit.specs.Calls.{Outcome, withoutReply, leaving, takeTime, takeCommand, takeReading, takePacket, takeTimeCode, takeTicks}
+use Rattle.unit.specs.declared.fate.Status.{Status}
 use Rattle.unit.specs.declared.fate.Fate.the-variants.{Unusable, NoSuchLink, TimeTaken}
 use Rattle.unit.specs.declared.windows.Question.the-variants.{EndsPast}
 use Rattle.unit.specs.declared.clock.Clock.{Clock}
@@ -46,9 +49,8 @@ use Rattle.unit.specs.declared.clock.Elapsed.{Elapsed}
 use Rattle.unit.specs.declared.clock.Waiting.{Waiting}
 use Rattle.unit.specs.declared.clock.Waiting.the-variants.{NoValue, Value}
 use Rattle.unit.specs.declared.owner.Owner.{Owner}
-use Rattle.unit.specs.declared.decide.Action.{Action}
-use Rattle.unit.specs.declared.decide.Action.the-variants.{Nothing, ReadMemory, RepeatByte, Store, StoreLast, Combine, ReadFields, Swap, WriteField}
 use Rattle.unit.specs.declared.unit.Unit.{Unit as TheUnit}
+use Rattle.unit.proofs.CommandLaws.{field-changes, command-is}
 
 -- ---- the causes, one by one
 
@@ -160,54 +162,6 @@ after-swap o new expected initiator path link p l k = go (eqb (o .device) expect
     go true false true = (refl, refl)
     go true false false = k
 
--- ---- an action
-
-field-written : (u : TheUnit) (address word : ℕ) → usableUnit u ≡ true → usableUnit (fieldWritten u address word) ≡ true
-unfolding fieldWritten usableUnit
-field-written u address word e = go (eqb (rowOf address) timeCodeCounter) (eqb (rowOf address) divider)
-  where
-    go : (a b : Bool) → usableUnit (cond a (withClock u (timeCodeWritten (u .clock) word)) (cond b (withFields u (dividerWritten (u .fields) word)) u)) ≡ true
-    go true b = with-clock u (timeCodeWritten (u .clock) word) e (code-written (u .clock) word (clock-works u e))
-    go false true = e
-    go false false = e
-
-after-action : (a : Action) (u : TheUnit) (initiator : ℕ) (path : Path) (link : ℕ) → path .count ≤ 12 → link ≤ 31 → usableUnit u ≡ true
-    → usableUnit (changed a u initiator path link) ≡ true
-unfolding changed
-after-action Nothing u initiator path link p l e = e
-after-action (ReadMemory at count) u initiator path link p l e = e
-after-action (RepeatByte at count) u initiator path link p l e = e
-after-action (Store at from count) u initiator path link p l e = e
-after-action (StoreLast at from count) u initiator path link p l e = e
-after-action (Combine at from count) u initiator path link p l e = e
-after-action (ReadFields address count) u initiator path link p l e = e
-after-action (Swap new expected) u initiator path link p l e =
-    with-owner u (swapped (u .owner) new expected initiator path link) e
-    (after-swap (u .owner) new expected initiator path link p l (owner-works u e))
-after-action (WriteField address word) u initiator path link p l e = field-written u address word e
-
--- no action touches a window
-field-windows : (u : TheUnit) (address word : ℕ) → fieldWritten u address word .windows ≡ u .windows
-unfolding fieldWritten
-field-windows u address word = go (eqb (rowOf address) timeCodeCounter) (eqb (rowOf address) divider)
-  where
-    go : (a b : Bool) → cond a (withClock u (timeCodeWritten (u .clock) word)) (cond b (withFields u (dividerWritten (u .fields) word)) u) .windows ≡ u .windows
-    go true b = refl
-    go false true = refl
-    go false false = refl
-
-same-windows : (a : Action) (u : TheUnit) (initiator : ℕ) (path : Path) (link : ℕ) → changed a u initiator path link .windows ≡ u .windows
-unfolding changed
-same-windows Nothing u initiator path link = refl
-same-windows (ReadMemory at count) u initiator path link = refl
-same-windows (RepeatByte at count) u initiator path link = refl
-same-windows (Store at from count) u initiator path link = refl
-same-windows (StoreLast at from count) u initiator path link = refl
-same-windows (Combine at from count) u initiator path link = refl
-same-windows (ReadFields address count) u initiator path link = refl
-same-windows (Swap new expected) u initiator path link = refl
-same-windows (WriteField address word) u initiator path link = field-windows u address word
-
 -- ---- the path of a packet that was read has at most twelve bytes
 
 abbrev Short : Packet → Type 0
@@ -249,12 +203,12 @@ packet-short p n =
 -- ---- the calls
 
 -- usable with the same memory, where the windows are the same
-with-memory : (u v : TheUnit) (n : ℕ) → usable u n ≡ true → v .windows ≡ u .windows → usableUnit v ≡ true → usable v n ≡ true
+pub with-memory : (u v : TheUnit) (n : ℕ) → usable u n ≡ true → v .windows ≡ u .windows → usableUnit v ≡ true → usable v n ≡ true
 unfolding usable
 with-memory u v n e w k =
     rw (k, w, first-true (leb 1 n && leb n 65536 && not (some (meets (EndsPast n)) (used (u .windows)))) (usableUnit u) e)
 
-alone : (u : TheUnit) (n : ℕ) → usable u n ≡ true → usableUnit u ≡ true
+pub alone : (u : TheUnit) (n : ℕ) → usable u n ≡ true → usableUnit u ≡ true
 unfolding usable
 alone u n e = second-true (leb 1 n && leb n 65536 && not (some (meets (EndsPast n)) (used (u .windows)))) (usableUnit u) e
 
@@ -279,12 +233,31 @@ usable-time u p end n d e = go (isTimePacket p end (u .logical) (u .number)) ref
 
 usable-command : (u : TheUnit) (h : Header) (path : Path) (p : List ℕ) (end : End) (link : ℕ) (m r : List ℕ) → path .count ≤ 12 → link ≤ 31
     → usable u (length m) ≡ true → usable (takeCommand u h path p end link m r .answer .unit) (length m) ≡ true
-unfolding takeCommand usableUnit
+unfolding usable usableUnit
 usable-command u h path p end link m r short low e =
-    let plan = decided u h path p end link (length r) in
-    let after = changed (plan .action) u (h .initiator) path link in
-    with-memory u (countedUnit (plan .fate) after) (length m) e (same-windows (plan .action) u (h .initiator) path link)
-    (after-action (plan .action) u (h .initiator) path link short low (alone u (length m) e))
+    command-is u h path p end link m r (λ o. usable (o .answer .unit) (length m) ≡ true) e (λ a. (λ w. e, λ w. e)) (λ q a. (λ w. e, λ w. e))
+    (λ q a. (λ w. after-fields, λ w. after-fields))
+  where
+    from : ℕ
+    from = headerSize (h .instruction)
+
+    status : Status
+    status = dataStatus (drop from p) (wantedCount h) end
+
+    works-alone : usableUnit u ≡ true
+    works-alone = alone u (length m) e
+
+    after-fields : usable (changed (fieldAction h status p from) u (h .initiator) path link) (length m) ≡ true
+    after-fields =
+        field-changes u h path p link from (λ v. usable v (length m) ≡ true) (isSuccess status) (kindIn h) e
+        (λ new expected t k.
+        let o = swapped (u .owner) new expected (h .initiator) path link in
+        with-memory u (withOwner u o) (length m) e refl (with-owner u o works-alone (after-swap (u .owner) new expected (h .initiator) path link short low (owner-works u works-alone))))
+        (λ word t k. (
+          with-memory u (withClock u (timeCodeWritten (u .clock) word)) (length m) e refl
+              (with-clock u (timeCodeWritten (u .clock) word) works-alone (code-written (u .clock) word (clock-works u works-alone))),
+          with-memory u (withFields u (dividerWritten (u .fields) word)) (length m) e refl works-alone,
+        ))
 
 usable-reading : (read : Reading) (u : TheUnit) (path : Path) (p : List ℕ) (end : End) (link : ℕ) (m r : List ℕ) → Digits 256 p → path .count ≤ 12
     → link ≤ 31 → usable u (length m) ≡ true → usable (takeReading read u path p end link m r .answer .unit) (length m) ≡ true

@@ -1,6 +1,6 @@
 -- `unit::calls::take_packet` meets its contract: the cases of the definition: unusable, no such link, and the three readings.
 use Rattle.packets.specs.declared.reading.Packet.{Packet}
-use Rattle.unit.proofs.CallLaws.{header-whole}
+use Rattle.packets.proofs.ReadingLaws.{header-whole}
 use Rattle.unit.specs.Calls.{takePacket}
 use lib.Dec.{leb}
 use mathlib.Core.Bool.{_&&_}
