@@ -1,0 +1,159 @@
+-- Demand 1, memory and histories: holds. A store stays in its span, which a window holds; usable is kept call by call.
+use mathlib.Core.Path.{_≡_, refl, sym, _∙_, ap}
+use mathlib.Core.Bool.{Bool, true, false, _&&_, _||_, false≢true, or-true}
+use mathlib.Core.Logic.{_⊎_, inl, inr, _≢_}
+use mathlib.Core.List.{List, [], _∷_}
+use Prim.Native.Nat.{ℕ, _+_, _-_, _<_, _≤_}
+use native.Mathlib.Omega.{arith}
+use native.Mathlib.Decide.{decLe}
+use native.Mathlib.Nat.{lt-of-not-le}
+use lib.ListN.{length, getD, drop}
+use Rattle.octets.proofs.PlaceLaws.{second-true}
+use Rattle.packets.specs.Instruction.{isWrite, headerSize}
+use Rattle.packets.specs.Reading.{readPacket}
+use Rattle.packets.specs.declared.instruction.Kind.{Kind}
+use Rattle.packets.specs.declared.instruction.Kind.the-variants.{ReadModifyWrite, Write}
+use Rattle.packets.specs.declared.header.Header.{Header}
+use Rattle.packets.specs.declared.path.Path.{Path}
+use Rattle.packets.specs.declared.reading.End.{End}
+use Rattle.packets.specs.declared.reading.Reading.the-variants.{Command}
+use Rattle.unit.specs.Some.{some}
+use Rattle.unit.specs.Fate.{isSuccess, fateNumber}
+use Rattle.unit.specs.Windows.{holds, hasRight, used}
+use Rattle.unit.specs.Usable.{usable}
+use Rattle.unit.specs.Decide.{kindIn, isRmw, spanSize, headerStatus, wantedCount, dataStatus}
+use Rattle.unit.specs.Plan.{memoryAction}
+use Rattle.unit.specs.Act.{stored}
+use Rattle.unit.specs.Calls.{withoutReply, leaving, takeCommand, takeTimeCode, takeTicks}
+use Rattle.unit.specs.declared.fate.Fate.the-variants.{Obeyed}
+use Rattle.unit.specs.declared.clock.Clock.{Clock}
+use Rattle.unit.specs.declared.calls.Answer.{Answer}
+use Rattle.unit.specs.declared.windows.Window.{Window}
+use Rattle.unit.specs.declared.fate.Status.{Status}
+use Rattle.unit.specs.declared.unit.Unit.{Unit as TheUnit}
+use Rattle.packets.proofs.ReadingLaws.{header-whole}
+use Rattle.unit.proofs.CallLaws.{packet-length}
+use Rattle.unit.proofs.DecideLaws.{write-bit, memory-passed, span-passed}
+use Rattle.unit.proofs.UsableLaws.{with-memory, alone, usable-packet, usable-code, usable-ticks}
+use Rattle.unit.proofs.CommandLaws.{packet-is, command-is}
+use Rattle.unit.proofs.GrantLaws.{authorised-window}
+use Rattle.unit.proofs.MemoryLaws.{memory-outside, storing-kind}
+use Rattle.demands.proofs.NumbersHold.{one-two-three, small-rows}
+use Rattle.demands.specs.Terminal.{ours, IsCommand, Call, packet, timeCode, ticks, answerTo, after, fatesOf}
+use Rattle.demands.specs.Refusals.{SmallRow, ByCode, ByTicks}
+use Rattle.demands.specs.Bounds.{WindowForWriting, OnlyInWindow, NeverStrays, Lends, StaysUsable, ComesBack}
+
+-- ---- memory
+
+-- the right of a write, or of an RMW, has the write right in it
+writing : (kind : Kind) (w : Window) → (kind ≡ Write) ⊎ (kind ≡ ReadModifyWrite) → hasRight kind w ≡ true → w .write ≡ true
+writing kind w (inl e) r = rw e at r
+writing kind w (inr e) r = second-true (w .read) (w .write) (rw e at r)
+
+held : (kind : Kind) (at size : ℕ) (ws : List Window) → (kind ≡ Write) ⊎ (kind ≡ ReadModifyWrite)
+    → some (λ w. holds w at size && hasRight kind w) ws ≡ true → some (λ w. holds w at size && w .write) ws ≡ true
+held kind at size [] k e = e
+held kind at size (w ∷ ws) k e = go (holds w at size) (hasRight kind w) refl (writing kind w k) e (held kind at size ws k)
+  where
+    Rest : Bool
+    Rest = some (λ w. holds w at size && w .write) ws
+
+    go : (a b : Bool) → hasRight kind w ≡ b → (hasRight kind w ≡ true → w .write ≡ true)
+        → ((a && b) || some (λ w. holds w at size && hasRight kind w) ws) ≡ true
+        → (some (λ w. holds w at size && hasRight kind w) ws ≡ true → Rest ≡ true) → ((a && w .write) || Rest) ≡ true
+    go true true f right e rest = rw (right f)
+    go true false f right e rest = rw (rest e) (or-true (w .write))
+    go false b f right e rest = rest e
+
+module _ (u : TheUnit) (p : List ℕ) (end : End) (link : ℕ) (m r : List ℕ) (works : usable u (length m) ≡ true) (h : Header)
+    (read : readPacket p (u .number) .reading ≡ Command h) where
+  abbrev path : Path
+  path = readPacket p (u .number) .path
+
+  abbrev from : ℕ
+  from = headerSize (h .instruction)
+
+  abbrev status : Status
+  status = dataStatus (drop from p) (wantedCount h) end
+
+  abbrev there : ℕ → Type 0
+  there i =
+      (h : Header) × IsCommand u p h × (h .protocol ≡ 0x01) × ((isWrite (h .instruction) || isRmw (kindIn h)) ≡ true) × (h .address ≤ i) × (i < h .address + spanSize h)
+      × WindowForWriting u h
+
+  strays : h .protocol ≡ 0x01 → isSuccess (headerStatus u h path link) ≡ true → (i : ℕ)
+      → getD (stored (memoryAction h status from (length p - from)) p m) i 0 ≢ getD m i 0 → there i
+  strays e a i other = go (storing-kind (kindIn h) h status p m from (length p - from)) (decLe (h .address) i) (decLe (h .address + spanSize h) i)
+    where
+      outside : (i < h .address) ⊎ (h .address + spanSize h ≤ i) → ⊥
+      outside o = other (memory-outside u h path p end link m works (header-whole p (u .number) h read) e a i o)
+
+      window : (kindIn h ≡ Write) ⊎ (kindIn h ≡ ReadModifyWrite) → WindowForWriting u h
+      window k =
+          held (kindIn h) (h .address) (spanSize h) (used (u .windows)) k
+          (authorised-window (u .windows) h (span-passed (u .windows) h (memory-passed u h path link e a) .1))
+
+      stores : (kindIn h ≡ Write) ⊎ (kindIn h ≡ ReadModifyWrite) → (isWrite (h .instruction) || isRmw (kindIn h)) ≡ true
+      stores (inl k) = rw (write-bit h k)
+      stores (inr k) = rw k (or-true (isWrite (h .instruction)))
+
+      go : (stored (memoryAction h status from (length p - from)) p m ≡ m) ⊎ ((kindIn h ≡ Write) ⊎ (kindIn h ≡ ReadModifyWrite)) → Dec (h .address ≤ i)
+          → Dec (h .address + spanSize h ≤ i) → there i
+      go (inl same) b l = absurd (other (ap (λ (x : List ℕ). getD x i 0) same))
+      go (inr k) (no b) l = absurd (outside (inl (lt-of-not-le b)))
+      go (inr k) (yes b) (yes l) = absurd (outside (inr l))
+      go (inr k) (yes b) (no l) = (h, read, e, stores k, b, lt-of-not-le l, window k)
+
+  command-strays : OnlyInWindow u p m (takeCommand u h path p end link m r)
+  command-strays =
+      command-is u h path p end link m r (OnlyInWindow u p m) same (λ e. (λ w. same, λ w. same)) (λ e a. (λ w. strays e a, λ w. strays e a))
+      (λ e a. (λ w. same, λ w. same))
+    where
+      same : (i : ℕ) → getD m i 0 ≢ getD m i 0 → there i
+      same i other = absurd (other refl)
+
+pub never-strays : NeverStrays ours
+never-strays u p end link m r = (
+  packet-length u p end link m r .0,
+  packet-length u p end link m r .1,
+  packet-is u p end link m r (OnlyInWindow u p m) (λ e. same) (λ e f. same) (λ e f why g. same) (λ e f g. same) (λ e f g t. same)
+      (λ e f h g. command-strays u p end link m r e h g),
+)
+  where
+    same : OnlyInWindow u p m (leaving (withoutReply Obeyed u) m r)
+    same i other = absurd (other refl)
+
+-- ---- histories
+
+-- usable with a memory, call by call
+small-windows : (Moved : Clock → Type 0) (u : TheUnit) (a : Answer) → SmallRow Moved u a → a .unit .windows ≡ u .windows
+small-windows Moved u a (inl s) = ap (λ (v : TheUnit). v .windows) (s .2)
+small-windows Moved u a (inr s) = ap (λ (v : TheUnit). v .windows) (s .2)
+
+usable-call : (u : TheUnit) (n : ℕ) (c : Call) → usable u n ≡ true → Lends n c → usable (answerTo ours u c .unit) n ≡ true
+usable-call u n (packet p end link m r) e l = rw (l .0) at (usable-packet u p end link m r (l .1) (rw (l .0) e))
+usable-call u n (timeCode byte) e l =
+    with-memory u (takeTimeCode u byte .unit) n e (small-windows (ByCode byte) u (takeTimeCode u byte) (small-rows .0 u byte)) (usable-code u byte (alone u n e))
+usable-call u n (ticks count) e l =
+    with-memory u (takeTicks u count .unit) n e (small-windows (ByTicks u) u (takeTicks u count) (small-rows .1 u count)) (usable-ticks u count (alone u n e))
+
+pub stays-usable : StaysUsable ours
+unfolding after
+stays-usable u n [] e l = e
+stays-usable u n (c ∷ cs) e l = stays-usable (answerTo ours u c .unit) n cs (usable-call u n c e (l .0)) (l .1)
+
+-- 1 is for a unit that is not usable
+small-usable : (Moved : Clock → Type 0) (u : TheUnit) (n : ℕ) (a : Answer) → usable u n ≡ true → SmallRow Moved u a → fateNumber (a .fate) ≢ 1
+small-usable Moved u n a e (inl s) one = false≢true (sym (s .0) ∙ alone u n e)
+small-usable Moved u n a e (inr s) one = let zero = s .1 in absurd (omega (arith, zero, one))
+
+not-one : (u : TheUnit) (n : ℕ) (c : Call) → usable u n ≡ true → Lends n c → fateNumber (answerTo ours u c .fate) ≢ 1
+not-one u n (packet p end link m r) e l one = false≢true (sym (one-two-three u p end link m r .0 .0 one) ∙ rw (l .0) e)
+not-one u n (timeCode byte) e l one = small-usable (ByCode byte) u n (takeTimeCode u byte) e (small-rows .0 u byte) one
+not-one u n (ticks count) e l one = small-usable (ByTicks u) u n (takeTicks u count) e (small-rows .1 u count) one
+
+pub comes-back : ComesBack ours
+unfolding fatesOf
+comes-back u n [] e l = tt
+comes-back u n (c ∷ cs) e l =
+    (not-one u n c e (l .0), comes-back (answerTo ours u c .unit) n cs (usable-call u n c e (l .0)) (l .1))

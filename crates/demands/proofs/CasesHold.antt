@@ -1,0 +1,27 @@
+-- The cases by hand, computed by the definitions.
+use mathlib.Core.Path.{refl}
+use Rattle.octets.specs.Crc.{crc, mirrored, bits, remainder, message, modulo}
+use Rattle.packets.specs.Instruction.{kindOf}
+use Rattle.packets.specs.Path.{withoutLeadingZeros, orOneZero, pathOf}
+use Rattle.packets.specs.Reading.{readProtocol, readPacket}
+use Rattle.unit.specs.Clock.{afterTicks}
+use Rattle.unit.specs.Calls.{takePacket, takeTicks}
+use Rattle.demands.specs.Cases.{HandCases}
+
+pub hand-cases : HandCases
+unfolding crc mirrored bits remainder message modulo kindOf withoutLeadingZeros orOneZero pathOf readProtocol readPacket afterTicks takePacket takeTicks
+hand-cases = (
+  refl,
+  refl,
+  refl,
+  refl,
+  refl,
+  refl,
+  (refl, refl, refl, refl),
+  refl,
+  (refl, refl, refl, refl),
+  (refl, refl, refl, refl),
+  λ u end link m r works there. rw (works, there),
+  λ u end link m r works there. rw (works, there),
+  λ u works most. rw (works, most),
+)

@@ -1,0 +1,175 @@
+-- Demand 1, which number is given, holds: 1, 2 and 3 exactly where they are due, the small calls, and the list of numbers and statuses.
+use mathlib.Core.Path.{_≡_, refl, sym, _∙_, ap}
+use mathlib.Core.Bool.{Bool, true, false, cond, _&&_, false≢true}
+use mathlib.Core.Logic.{inl, inr, _↔_}
+use mathlib.Core.List.{List}
+use Prim.Native.Nat.{ℕ, _+_, _-_, _%_, _^_, _<_, _≤_}
+use native.Mathlib.Omega.{arith}
+use lib.Dec.{eqb}
+use lib.ListN.{length}
+use Rattle.packets.specs.Instruction.{wantsReply}
+use Rattle.packets.specs.Reading.{numberOf, readPacket}
+use Rattle.packets.specs.declared.header.Header.{Header}
+use Rattle.packets.specs.declared.reading.End.{End}
+use Rattle.packets.specs.declared.reading.Reading.{Reading}
+use Rattle.packets.specs.declared.reading.Reading.the-variants.{Refused, Time, Command}
+use Rattle.packets.specs.declared.reading.Refusal.{Refusal}
+use Rattle.packets.specs.declared.reading.Refusal.the-variants.{Incomplete, UnknownProtocol, ExtendedProtocol, Reply, HeaderCrc}
+use Rattle.unit.specs.Some.{some}
+use Rattle.unit.specs.Fate.{byteOf, fateNumber, fateStatus}
+use Rattle.unit.specs.Clock.{atWrap, fractionSet, afterCode, afterTicks}
+use Rattle.unit.specs.Usable.{usable, usableUnit}
+use Rattle.unit.specs.Act.{withClock}
+use Rattle.unit.specs.Calls.{withoutReply, takeCommand, takePacket, smallCall, takeTimeCode, takeTicks}
+use Rattle.unit.specs.declared.fate.Status.{Status}
+use Rattle.unit.specs.declared.fate.Status.the-variants.{Success, UnusedCode, WrongKey, DataCrc, EarlyEop, TooMuchData, EndedByEep, VerifyOverrun}
+use Rattle.unit.specs.declared.fate.Status.the-variants.{NotAuthorised, RmwLength, WrongAddress, NotOwner, NoSuchField, ReadOnlyField, PlainDeviceId}
+use Rattle.unit.specs.declared.fate.Fate.{Fate}
+use Rattle.unit.specs.declared.fate.Fate.the-variants.{TimeChanged, Unusable, Unread}
+use Rattle.unit.specs.declared.clock.Clock.{Clock}
+use Rattle.unit.specs.declared.clock.Waiting.the-variants.{NoValue}
+use Rattle.unit.specs.declared.unit.Unit.{Unit as TheUnit}
+use Rattle.unit.proofs.PlanLaws.{plan-status, roomless-plan}
+use Rattle.unit.proofs.CommandLaws.{packet-is, command-fate}
+use Rattle.packets.proofs.ReadingLaws.{one-command}
+use Rattle.demands.specs.Terminal.{ours, isLink, IsCommand, pathIn}
+use Rattle.demands.specs.Refusals.{lengthDue, OneTwoThree, SmallRow, ByCode, ByTicks, SmallRows, numbers, statuses, Carries, Listed}
+
+-- ---- 1 goes before 2, 2 before all else; and 3
+
+unread-high : (why : Refusal) → 11 ≤ numberOf why
+unread-high Incomplete = omega arith
+unread-high UnknownProtocol = omega arith
+unread-high ExtendedProtocol = omega arith
+unread-high Reply = omega arith
+unread-high HeaderCrc = omega arith
+
+-- what is read as something else is no command
+abbrev is-command : Reading → Bool
+is-command q = elim q [ Refused why ↦ false | Time ↦ false | Command h ↦ true ]
+
+pub no-command : (h : Header) (q : Reading) → is-command q ≡ false → Command h ≡ q → ⊥
+no-command h q e f = false≢true (sym e ∙ sym (ap is-command f))
+
+module _ (u : TheUnit) (p : List ℕ) (end : End) (link : ℕ) (m r : List ℕ) where
+  abbrev Works : Type 0
+  Works = usable u (length m) ≡ true
+
+  abbrev Too : Type 0
+  Too = (h : Header) × IsCommand u p h × (wantsReply (h .instruction) ≡ true) × (length r < lengthDue u p h end link)
+
+  abbrev Exactly : ℕ → Type 0
+  Exactly n = ((n ≡ 1) ↔ (usable u (length m) ≡ false)) × ((n ≡ 2) ↔ (Works × (isLink u link ≡ false))) × ((n ≡ 3) ↔ (Works × (isLink u link ≡ true) × Too))
+
+  -- past 1 and 2
+  later : Works → isLink u link ≡ true → (n : ℕ) → 3 ≤ n → (n ≡ 3) ↔ Too → Exactly n
+  later e f n high three = (
+    (λ k. absurd (omega (arith, k, high)), λ g. absurd (false≢true (sym g ∙ e))),
+    (λ k. absurd (omega (arith, k, high)), λ g. absurd (false≢true (sym (g .1) ∙ f))),
+    (λ k. (e, f, three .0 k), λ g. three .1 (g .2)),
+  )
+
+  -- no command
+  never : Works → isLink u link ≡ true → (n : ℕ) → 11 ≤ n → ((h : Header) → IsCommand u p h → ⊥) → Exactly n
+  never e f n high none = later e f n (omega (arith, high)) (λ k. absurd (omega (arith, k, high)), λ g. absurd (none (g .0) (g .1)))
+
+  -- a command
+  command-three : (h : Header) → IsCommand u p h → (fateNumber (takeCommand u h (pathIn u p) p end link m r .answer .fate) ≡ 3) ↔ Too
+  unfolding takeCommand
+  command-three h is =
+      let path = pathIn u p in
+      let plan = roomless-plan u h path p end link (length r) in
+      let status = plan-status u h path p end link (length r) in (
+        λ n. let x = plan .0 n in (h, is, x .0, rw status at (x .1)),
+        λ too.
+            let same = one-command (readPacket p (u .number) .reading) h (too .0) is (too .1) in
+            plan .1 (rw same at (too .2), rw status (rw same at (too .3))),
+      )
+
+  one-two-three-of : Exactly (fateNumber (takePacket u p end link m r .answer .fate))
+  one-two-three-of =
+      packet-is u p end link m r (λ o. Exactly (fateNumber (o .answer .fate)))
+      (λ e. (
+        (λ n. e, λ f. refl),
+        (λ n. absurd (omega (arith, n)), λ f. absurd (false≢true (sym e ∙ f .0))),
+        (λ n. absurd (omega (arith, n)), λ f. absurd (false≢true (sym e ∙ f .0))),
+      ))
+      (λ e f. (
+        (λ n. absurd (omega (arith, n)), λ g. absurd (false≢true (sym g ∙ e))),
+        (λ n. (e, f), λ g. refl),
+        (λ n. absurd (omega (arith, n)), λ g. absurd (false≢true (sym f ∙ g .1))),
+      ))
+      (λ e f why g. never e f (numberOf why) (unread-high why) (λ h is. no-command h (Refused why) refl (sym is ∙ g)))
+      (λ e f g. never e f 16 (omega arith) (λ h is. no-command h Time refl (sym is ∙ g)))
+      (λ e f g t. never e f 19 (omega arith) (λ h is. no-command h Time refl (sym is ∙ g)))
+      (λ e f h g. later e f (fateNumber (takeCommand u h (pathIn u p) p end link m r .answer .fate))
+      (command-fate u h (pathIn u p) p end link m r (λ f. 3 ≤ fateNumber f) (omega arith) (λ s. omega arith) (λ s e. omega arith) (omega arith))
+      (command-three h g))
+
+pub one-two-three : OneTwoThree ours
+one-two-three = one-two-three-of
+
+-- ---- the small calls
+
+small-row : (Moved : Clock → Type 0) (u : TheUnit) (c : Clock) → Moved c → SmallRow Moved u (smallCall u (withClock u c))
+small-row Moved u c moved = go (usableUnit u) refl
+  where
+    go : (t : Bool) → usableUnit u ≡ t → SmallRow Moved u (cond t (withoutReply TimeChanged (withClock u c)) (withoutReply Unusable u))
+    go true e = inr (e, refl, refl, moved, refl)
+    go false e = inl (e, refl, refl, refl)
+
+-- always v becomes last
+code-last : (c : Clock) (v : ℕ) → afterCode c v .last ≡ v
+unfolding afterCode
+code-last c v = go (eqb (c .last) 63 && eqb v 0)
+  where
+    Last : Clock → Type 0
+    Last k = k .last ≡ v
+
+    go : (t : Bool) → Last (cond t (record { last = v; elapsed = atWrap (c .elapsed) (c .waiting); waiting = NoValue })
+        (record { last = v; elapsed = cond (eqb v (c .last + 1)) (fractionSet (c .elapsed) v) (c .elapsed); waiting = c .waiting }))
+    go true = refl
+    go false = refl
+
+pub small-rows : SmallRows ours
+unfolding takeTimeCode takeTicks afterTicks
+small-rows = (
+  λ u byte. small-row (ByCode byte) u (afterCode (u .clock) (byte % 2 ^ 6)) (code-last (u .clock) (byte % 2 ^ 6)),
+  λ u count. small-row (ByTicks u) u (afterTicks (u .clock) count) (refl, refl),
+)
+
+-- ---- the numbers and statuses
+
+status-listed : (s : Status) → some (eqb (byteOf s)) statuses ≡ true
+status-listed Success = refl
+status-listed UnusedCode = refl
+status-listed WrongKey = refl
+status-listed DataCrc = refl
+status-listed EarlyEop = refl
+status-listed TooMuchData = refl
+status-listed EndedByEep = refl
+status-listed VerifyOverrun = refl
+status-listed NotAuthorised = refl
+status-listed RmwLength = refl
+status-listed WrongAddress = refl
+status-listed NotOwner = refl
+status-listed NoSuchField = refl
+status-listed ReadOnlyField = refl
+status-listed PlainDeviceId = refl
+
+abbrev Lists : Fate → Type 0
+Lists f = (some (eqb (fateNumber f)) numbers ≡ true) × Carries (fateNumber f) (fateStatus f)
+
+unread-listed : (why : Refusal) → Lists (Unread why)
+unread-listed Incomplete = (refl, refl)
+unread-listed UnknownProtocol = (refl, refl)
+unread-listed ExtendedProtocol = (refl, refl)
+unread-listed Reply = (refl, refl)
+unread-listed HeaderCrc = (refl, refl)
+
+pub listed : Listed ours
+listed u p end link m r =
+    packet-is u p end link m r (λ o. Lists (o .answer .fate)) (λ e. (refl, refl)) (λ e f. (refl, refl)) (λ e f why g. unread-listed why)
+    (λ e f g. (refl, refl)) (λ e f g t. (refl, refl))
+    (λ e f h g. command-fate u h (readPacket p (u .number) .path) p end link m r Lists (refl, refl) (λ s. (refl, (refl, status-listed s)))
+    (λ s e. (refl, (refl, status-listed s))) (refl, (refl, refl)))

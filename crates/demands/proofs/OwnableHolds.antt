@@ -1,0 +1,207 @@
+-- Demand 2, what can be owned, holds: a command that changes it passed the checks of its sender.
+use mathlib.Core.Path.{_≡_, refl, sym, ap}
+use mathlib.Core.Bool.{Bool, true, false, cond, _||_, false≢true}
+use mathlib.Core.Logic.{_⊎_, inl, inr, _≢_}
+use mathlib.Core.List.{List, [], _∷_}
+use Prim.Native.Nat.{ℕ, _-_, _<_}
+use borrow.Author.Tests.{eqb-true, eq-eqb}
+use lib.Dec.{eqb}
+use lib.ListN.{drop}
+use Rattle.packets.specs.Instruction.{headerSize}
+use Rattle.packets.specs.Reading.{readPacket}
+use Rattle.packets.specs.declared.instruction.Kind.the-variants.{ReadModifyWrite}
+use Rattle.packets.specs.declared.header.Header.{Header}
+use Rattle.packets.specs.declared.path.Path.{Path}
+use Rattle.packets.specs.declared.reading.End.{End}
+use Rattle.packets.proofs.PathLaws.{path-same}
+use Rattle.packets.specs.declared.time.When.{When}
+use Rattle.packets.specs.declared.time.When.the-variants.{AtWrap, AtOnce}
+use Rattle.packets.specs.declared.time.Time.{Time as TheTime}
+use Rattle.unit.specs.Some.{some}
+use Rattle.unit.specs.Fate.{isSuccess}
+use Rattle.unit.specs.Clock.{setAt, afterTime}
+use Rattle.unit.specs.Owner.{isOwner, unowned, swapped}
+use Rattle.unit.specs.Fields.{deviceId, missing, rowOf, valuesOf}
+use Rattle.unit.specs.Decide.{kindIn, isRmw, isAllowed, headerStatus, wantedCount, dataStatus}
+use Rattle.unit.specs.Plan.{fieldAction}
+use Rattle.unit.specs.Act.{changed, withOwner}
+use Rattle.unit.specs.Calls.{takePacket}
+use Rattle.unit.specs.declared.fate.Status.{Status}
+use Rattle.unit.specs.declared.clock.Clock.{Clock}
+use Rattle.unit.specs.declared.owner.Owner.{Owner}
+use Rattle.unit.specs.declared.unit.Unit.{Unit as TheUnit}
+use Rattle.unit.proofs.FieldLaws.{swapped-row}
+use Rattle.unit.proofs.DecideLaws.{fields-passed, named-passed}
+use Rattle.unit.proofs.CommandLaws.{packet-is, command-is, field-changes}
+use Rattle.packets.proofs.ReadingLaws.{protocol-other}
+use Rattle.demands.proofs.Below.{below}
+use Rattle.demands.proofs.RefusalsHold.{divider-only}
+use Rattle.demands.specs.Terminal.{ours, IsCommand, pathIn, Every}
+use Rattle.demands.specs.Refusals.{withOwnable}
+use Rattle.demands.specs.Meaning.{OwnersOrClaim, OwnableIsOwners, OwnerIsSwapped, shownBy, ownable, FieldsAreOwners, OthersStay}
+
+-- ---- what can be owned
+
+-- a time packet leaves the last Time-Code
+last-stays : (w : When) (c : Clock) (t : TheTime) → setAt w c t .last ≡ c .last
+last-stays AtOnce c t = refl
+last-stays AtWrap c t = refl
+
+-- a swap that passed is on Device ID
+on-device : (u : TheUnit) (p : List ℕ) (link : ℕ) (h : Header) → (h .protocol ≡ 0x01 → ⊥) → isSuccess (headerStatus u h (pathIn u p) link) ≡ true
+    → kindIn h ≡ ReadModifyWrite → rowOf (h .address) ≡ deviceId
+on-device u p link h other accepted k =
+    swapped-row (h .address) (rw k at (named-passed (u .owner) h (pathIn u p) link (fields-passed u h (pathIn u p) link other accepted) .2))
+
+module _ (u : TheUnit) (p : List ℕ) (end : End) (link : ℕ) (m r : List ℕ) where
+  abbrev path : Path
+  path = pathIn u p
+
+  -- nothing that can be owned, and nothing that a field shows, has changed; or the packet is the owner's, or a claim
+  abbrev Kept : TheUnit → Type 0
+  Kept v = (v .fields ≡ u .fields) × (v .owner ≡ u .owner) × (v .clock .last ≡ u .clock .last) × (v .links ≡ u .links)
+
+  abbrev Allowed : TheUnit → Type 0
+  Allowed v = Kept v ⊎ OwnersOrClaim u p link v
+
+  same : Kept u
+  same = (refl, refl, refl, refl)
+
+  module _ (h : Header) (read : IsCommand u p h) (other : h .protocol ≡ 0x01 → ⊥) (accepted : isSuccess (headerStatus u h path link) ≡ true) where
+    known : h .protocol ≡ 0x03
+    known = protocol-other p (u .number) h read other
+
+    allowed : isAllowed (kindIn h) (u .owner) (h .initiator) path link ≡ true
+    allowed = named-passed (u .owner) h path link (fields-passed u h path link other accepted) .3
+
+    -- a swap: the owner's, or anyone's where Device ID is 0, and then it claims or changes nothing
+    claims : kindIn h ≡ ReadModifyWrite → (new expected : ℕ) → u .owner .device ≡ 0
+        → Allowed (withOwner u (swapped (u .owner) new expected (h .initiator) path link))
+    unfolding swapped
+    claims k new expected zero = go (eqb (u .owner .device) expected) (eqb (u .owner .device) 0) (eqb new 0) refl (eq-eqb (u .owner .device) 0 zero)
+      where
+        o : Owner
+        o = u .owner
+
+        taken : Owner
+        taken = record { device = new; initiator = h .initiator; path = path; link = link }
+
+        go : (a b c : Bool) → eqb new 0 ≡ c → b ≡ true → Allowed (withOwner u (cond a (cond b (cond c o taken) (cond c unowned (record { device = new; initiator = o .initiator; path = o .path; link = o .link }))) o))
+        go false b c e f = inl same
+        go true true true e f = inl same
+        go true true false e f =
+            inr (h, read, known, inr (zero, rw k, on-device u p link h other accepted k, rw (e, eq-eqb (h .initiator) (h .initiator) refl, path-same path, eq-eqb link link refl)))
+        go true false c e f = absurd (false≢true f)
+
+    swaps : kindIn h ≡ ReadModifyWrite → (new expected : ℕ) → Allowed (withOwner u (swapped (u .owner) new expected (h .initiator) path link))
+    swaps k new expected = go (eqb (u .owner .device) 0) refl (rw k at allowed)
+      where
+        go : (t : Bool) → eqb (u .owner .device) 0 ≡ t → (t || isOwner (u .owner) (h .initiator) path link) ≡ true
+            → Allowed (withOwner u (swapped (u .owner) new expected (h .initiator) path link))
+        go true e a = claims k new expected (eqb-true (u .owner .device) 0 e)
+        go false e a = inr (h, read, known, inl a)
+
+    fields-allowed : (s : Status) (from : ℕ) → Allowed (changed (fieldAction h s p from) u (h .initiator) path link)
+    fields-allowed s from =
+        field-changes u h path p link from Allowed (isSuccess s) (kindIn h) (inl same) (λ new expected t k. swaps k new expected)
+        (λ word t k. (inr (h, read, known, inl (rw k at allowed)), inr (h, read, known, inl (rw k at allowed))))
+
+  packet-allowed : Allowed (takePacket u p end link m r .answer .unit)
+  unfolding afterTime
+  packet-allowed =
+      packet-is u p end link m r (λ o. Allowed (o .answer .unit)) (λ e. inl same) (λ e f. inl same) (λ e f why g. inl same) (λ e f g. inl same)
+      (λ e f g t. inl (refl, refl, last-stays (t .when) (u .clock) t, refl))
+      (λ e f h g. command-is u h path p end link m r (λ o. Allowed (o .answer .unit)) (inl same) (λ a. (λ w. inl same, λ w. inl same))
+      (λ b a. (λ w. inl same, λ w. inl same))
+      (λ b a. let v = fields-allowed h g b a (dataStatus (drop (headerSize (h .instruction)) p) (wantedCount h) end) (headerSize (h .instruction)) in (λ w. v, λ w. v)))
+
+pub ownable-is-owners : OwnableIsOwners ours
+ownable-is-owners u p end link m r other = go (packet-allowed u p end link m r)
+  where
+    v : TheUnit
+    v = takePacket u p end link m r .answer .unit
+
+    go : Allowed u p end link m r v → OwnersOrClaim u p link v
+    go (inl k) = absurd (other (rw (k .0, k .1, k .2)))
+    go (inr x) = x
+
+-- the owner changes by a swap on Device ID alone
+module _ (u : TheUnit) (p : List ℕ) (link : ℕ) where
+  abbrev Swapped : TheUnit → Type 0
+  Swapped v =
+      (v .owner ≡ u .owner)
+      ⊎ ((h : Header) × IsCommand u p h × (h .protocol ≡ 0x03) × (isRmw (kindIn h) ≡ true) × (rowOf (h .address) ≡ deviceId))
+
+  fields-swapped : (h : Header) → IsCommand u p h → (h .protocol ≡ 0x01 → ⊥) → isSuccess (headerStatus u h (pathIn u p) link) ≡ true → (s : Status) (from : ℕ)
+      → Swapped (changed (fieldAction h s p from) u (h .initiator) (pathIn u p) link)
+  fields-swapped h read other accepted s from =
+      field-changes u h (pathIn u p) p link from Swapped (isSuccess s) (kindIn h) (inl refl)
+      (λ new expected t k. inr (h, read, protocol-other p (u .number) h read other, rw k, on-device u p link h other accepted k)) (λ word t k. (inl refl, inl refl))
+
+pub owner-is-swapped : OwnerIsSwapped ours
+unfolding afterTime
+owner-is-swapped u p end link m r other =
+    go (packet-is u p end link m r (λ o. Swapped u p link (o .answer .unit)) (λ e. inl refl) (λ e f. inl refl) (λ e f why g. inl refl) (λ e f g. inl refl)
+    (λ e f g t. inl refl)
+    (λ e f h g. command-is u h (pathIn u p) p end link m r (λ o. Swapped u p link (o .answer .unit)) (inl refl) (λ a. (λ w. inl refl, λ w. inl refl))
+    (λ b a. (λ w. inl refl, λ w. inl refl))
+    (λ b a. let v = fields-swapped u p link h g b a (dataStatus (drop (headerSize (h .instruction)) p) (wantedCount h) end) (headerSize (h .instruction)) in (λ w. v, λ w. v))))
+  where
+    go : Swapped u p link (takePacket u p end link m r .answer .unit)
+        → (h : Header) × IsCommand u p h × (h .protocol ≡ 0x03) × (isRmw (kindIn h) ≡ true) × (rowOf (h .address) ≡ deviceId)
+    go (inl same) = absurd (other same)
+    go (inr x) = x
+
+pub fields-are-owners : FieldsAreOwners ours
+fields-are-owners u p end link m r row shown other = go (packet-allowed u p end link m r)
+  where
+    v : TheUnit
+    v = takePacket u p end link m r .answer .unit
+
+    go : Allowed u p end link m r v → OwnersOrClaim u p link v
+    go (inl k) = absurd (other (rw (k .0, k .1, k .2, k .3)))
+    go (inr x) = x
+
+-- ---- the fields that no packet changes
+
+-- what holds of every one of a list holds of one that is in it
+one-of : (P : ℕ → Type 0) (l : List ℕ) (n : ℕ) → some (eqb n) l ≡ true → Every P l → P n
+one-of P [] n e all = absurd (false≢true e)
+one-of P (x ∷ xs) n e all = go (eqb n x) refl e (one-of P xs n)
+  where
+    go : (t : Bool) → eqb n x ≡ t → (t || some (eqb n) xs) ≡ true → (some (eqb n) xs ≡ true → Every P xs → P n) → P n
+    go true f e rest = rw (eqb-true n x f) (all .0)
+    go false f e rest = rest e (all .1)
+
+abbrev others : List ℕ
+others = 0 ∷ 1 ∷ 2 ∷ 3 ∷ 9 ∷ 10 ∷ 12 ∷ 13 ∷ []
+
+-- with those that can change they are the whole table
+other-row : (row : ℕ) → row < missing → some (eqb row) (4 ∷ ownable) ≡ false → some (eqb row) others ≡ true
+other-row row h e = rw e at (below (λ k. some (eqb k) (4 ∷ ownable) || some (eqb k) others) missing refl row h)
+
+module _ (u : TheUnit) (p : List ℕ) (end : End) (link : ℕ) (m r : List ℕ) where
+  -- of the fields' values the divider alone may differ, and the links are the same
+  abbrev Stay : TheUnit → Type 0
+  Stay v = (withOwnable u v .fields ≡ v .fields) × (v .links ≡ u .links)
+
+  fields-stay : (h : Header) (s : Status) (from : ℕ) → Stay (changed (fieldAction h s p from) u (h .initiator) (readPacket p (u .number) .path) link)
+  fields-stay h s from =
+      field-changes u h (readPacket p (u .number) .path) p link from Stay (isSuccess s) (kindIn h) (refl, refl) (λ new expected t k. (refl, refl))
+      (λ word t k. ((refl, refl), (sym (ap (λ (v : TheUnit). v .fields) (divider-only u word)), refl)))
+
+  packet-stay : Stay (takePacket u p end link m r .answer .unit)
+  packet-stay =
+      packet-is u p end link m r (λ o. Stay (o .answer .unit)) (λ e. (refl, refl)) (λ e f. (refl, refl)) (λ e f why g. (refl, refl)) (λ e f g. (refl, refl))
+      (λ e f g t. (refl, refl))
+      (λ e f h g. command-is u h (readPacket p (u .number) .path) p end link m r (λ o. Stay (o .answer .unit)) (refl, refl)
+      (λ a. (λ w. (refl, refl), λ w. (refl, refl))) (λ b a. (λ w. (refl, refl), λ w. (refl, refl)))
+      (λ b a. let v = fields-stay h (dataStatus (drop (headerSize (h .instruction)) p) (wantedCount h) end) (headerSize (h .instruction)) in (λ w. v, λ w. v)))
+
+pub others-stay : OthersStay ours
+unfolding valuesOf
+others-stay u p end link m r row shown small other =
+    let v = takePacket u p end link m r .answer .unit in
+    let s = sym (packet-stay u p end link m r .0) in
+    one-of (λ k. shownBy v shown k ≡ shownBy u shown k) others row (other-row row small other)
+    (rw s, (rw s, (rw s, (rw s, (rw s, (rw s, (rw s, (rw s, tt))))))))

@@ -1,0 +1,249 @@
+-- Demand 1, the table of numbers, holds: each of the ways that a packet can go leaves what its row says.
+use mathlib.Core.Path.{_≡_, refl, sym, _∙_, ap}
+use mathlib.Core.Bool.{Bool, true, false, cond, not, _&&_, _||_, false≢true}
+use mathlib.Core.Logic.{inl, inr}
+use mathlib.Core.List.{List, [], _∷_}
+use Prim.Native.Nat.{ℕ, _+_, _-_, _*_, _/_, _%_, _^_, min}
+use native.Mathlib.Omega.{arith}
+use borrow.Author.Tests.{eq-eqb, ne-eqb}
+use lib.Dec.{eqb, ltb}
+use lib.ListN.{length, drop}
+use Rattle.octets.specs.Numbers.{Digits}
+use Rattle.packets.specs.Instruction.{isWrite, isVerified, headerSize}
+use Rattle.packets.specs.Reading.{numberOf}
+use Rattle.packets.specs.Reply.{replyOf}
+use Rattle.packets.specs.declared.instruction.Kind.{Kind}
+use Rattle.packets.specs.declared.instruction.Kind.the-variants.{Unused, Read, ReadModifyWrite, Write}
+use Rattle.packets.specs.declared.header.Header.{Header}
+use Rattle.packets.specs.declared.path.Path.{Path}
+use Rattle.packets.specs.declared.reading.End.{End}
+use Rattle.packets.specs.declared.reading.Refusal.{Refusal}
+use Rattle.packets.specs.declared.reading.Refusal.the-variants.{Incomplete, UnknownProtocol, ExtendedProtocol, Reply, HeaderCrc}
+use Rattle.unit.specs.Some.{some}
+use Rattle.unit.specs.Fate.{byteOf, isSuccess, fateNumber}
+use Rattle.unit.specs.Counters.{countedFor}
+use Rattle.unit.specs.Clock.{timeCodeWritten}
+use Rattle.unit.specs.Owner.{swapped}
+use Rattle.unit.specs.Fields.{dividerWritten}
+use Rattle.unit.specs.Usable.{usable}
+use Rattle.unit.specs.Decide.{kindIn, rmwCount, headerStatus, wantedCount, dataStatus}
+use Rattle.unit.specs.Plan.{actionOf, memoryAction, fieldAction, decided}
+use Rattle.unit.specs.Act.{stored, dataFor, changed, countedUnit, withClock, withCounters, withFields, withOwner}
+use Rattle.unit.specs.Calls.{Outcome, takeCommand}
+use Rattle.unit.specs.declared.fate.Status.{Status}
+use Rattle.unit.specs.declared.fate.Fate.{Fate}
+use Rattle.unit.specs.declared.fate.Fate.the-variants.{Unread, Obeyed, Replied}
+use Rattle.unit.specs.declared.unit.Unit.{Unit as TheUnit}
+use Rattle.unit.proofs.ReplyLaws.{reply-written}
+use Rattle.unit.proofs.CommandLaws.{packets-are, Answers, command-is, field-changes}
+use Rattle.unit.proofs.MemoryLaws.{nothing-stores, read-stores, rmw-stores, write-stores, refused-stores}
+use Rattle.unit.proofs.DecideLaws.{writes, write-bit-is, header-gives, data-refuses}
+use Rattle.packets.proofs.ReadingLaws.{header-whole, protocol-other, length-below}
+use Rattle.demands.specs.Terminal.{ours, IsCommand, pathIn}
+use Rattle.demands.specs.Refusals.{countedAs, withOwnable, writtenTo, obeyedOn, refusedOn, statusDue, Written, Leaves, RowByRow}
+
+-- ---- what a field command can change
+
+code-only : (u : TheUnit) (word : ℕ) → withClock u (timeCodeWritten (u .clock) word) ≡ withOwnable u (withClock u (timeCodeWritten (u .clock) word))
+code-only u word = go (eqb word 0)
+  where
+    written : Bool → TheUnit
+    written t = withClock u (cond t (record { last = 0; elapsed = u .clock .elapsed; waiting = u .clock .waiting }) (u .clock))
+
+    go : (t : Bool) → written t ≡ withOwnable u (written t)
+    go true = refl
+    go false = refl
+
+pub divider-only : (u : TheUnit) (word : ℕ) → withFields u (dividerWritten (u .fields) word) ≡ withOwnable u (withFields u (dividerWritten (u .fields) word))
+unfolding dividerWritten
+divider-only u word = go (ltb (word % 2 ^ 16) (u .fields .range % 2 ^ 16) || ltb (u .fields .range / 2 ^ 16) (word % 2 ^ 16))
+  where
+    written : Bool → TheUnit
+    written t = withFields u (cond t (u .fields) (record {
+      vendor = u .fields .vendor;
+      version = u .fields .version;
+      status = u .fields .status;
+      active = u .fields .active;
+      information = u .fields .information;
+      maker = u .fields .maker;
+      serial = u .fields .serial;
+      base = u .fields .base;
+      range = u .fields .range;
+      divider = u .fields .divider / 2 ^ 16 * 2 ^ 16 + word % 2 ^ 16;
+    }))
+
+    go : (t : Bool) → written t ≡ withOwnable u (written t)
+    go true = refl
+    go false = refl
+
+replied-counted : (s : Status) (u : TheUnit) → countedUnit (Replied s) u ≡ countedAs 20 u
+unfolding countedFor
+replied-counted s u = refl
+
+obeyed-counted : (u : TheUnit) → countedUnit Obeyed u ≡ countedAs 18 u
+unfolding countedFor
+obeyed-counted u = refl
+
+-- counted or not
+only-ownable : (number : ℕ) (f : Fate) (u v : TheUnit) → countedUnit f u ≡ countedAs number u → v ≡ withOwnable u v
+    → countedUnit f v ≡ countedAs number (withOwnable u (countedUnit f v))
+only-ownable number f u v c only =
+    ap (countedUnit f) only ∙ ap (λ (k : List ℕ). withCounters (withOwnable u v) k) (ap (λ (w : TheUnit). w .counters) c)
+
+-- ---- what a command leaves in memory
+
+-- obeyed
+obeyed-memory : (kind : Kind) (h : Header) (s : Status) (p m : List ℕ) → isSuccess s ≡ true
+    → stored (actionOf kind h s (headerSize (h .instruction)) (length p - headerSize (h .instruction))) p m ≡ obeyedOn kind h p m
+obeyed-memory Unused h s p m e = nothing-stores p m
+obeyed-memory Read h s p m e = read-stores (h .instruction) s (h .address) (h .length) p m
+obeyed-memory ReadModifyWrite h s p m e = rmw-stores s (h .address) (headerSize (h .instruction)) (rmwCount h) p m ∙ rw e
+obeyed-memory Write h s p m e =
+    write-stores (h .instruction) s (h .address) (headerSize (h .instruction)) (min (length p - headerSize (h .instruction)) (h .length)) p m
+    ∙ rw e (go (isVerified (h .instruction)))
+  where
+    go : (v : Bool) → cond (v && false) m (writtenTo h p m) ≡ writtenTo h p m
+    go true = refl
+    go false = refl
+
+-- refused, by its data
+refused-memory : (h : Header) (s : Status) (p m : List ℕ) → h .protocol ≡ 0x01 → isSuccess s ≡ false → some (eqb (byteOf s)) (4 ∷ 5 ∷ 6 ∷ 7 ∷ []) ≡ true
+    → stored (memoryAction h s (headerSize (h .instruction)) (length p - headerSize (h .instruction))) p m ≡ refusedOn h s p m
+refused-memory h s p m e f g =
+    refused-stores (kindIn h) h s p m (headerSize (h .instruction)) (length p - headerSize (h .instruction)) f
+    ∙ rw (eq-eqb (h .protocol) 0x01 e, g, write-bit-is h) (go (writes (kindIn h)) (isVerified (h .instruction)))
+  where
+    go : (w v : Bool) → cond (w && not v) (writtenTo h p m) m ≡ cond (w && not v && true) (writtenTo h p m) m
+    go true true = refl
+    go true false = refl
+    go false v = refl
+
+-- refused by its header, or a field command
+header-memory : (h : Header) (s : Status) (p m : List ℕ) → some (eqb (byteOf s)) (4 ∷ 5 ∷ 6 ∷ 7 ∷ []) ≡ false → m ≡ refusedOn h s p m
+header-memory h s p m g = rw g (go (eqb (h .protocol) 0x01 && isWrite (h .instruction) && not (isVerified (h .instruction))))
+  where
+    go : (t : Bool) → m ≡ cond (t && false) (writtenTo h p m) m
+    go true = refl
+    go false = refl
+
+field-memory : (h : Header) (s : Status) (p m : List ℕ) → (h .protocol ≡ 0x01 → ⊥) → m ≡ refusedOn h s p m
+field-memory h s p m e = rw (ne-eqb (h .protocol) 0x01 e)
+
+-- ---- a command
+
+module _ (u : TheUnit) (p : List ℕ) (end : End) (link : ℕ) (m r : List ℕ) (h : Header) (read : IsCommand u p h) where
+  abbrev path : Path
+  path = pathIn u p
+
+  -- where the fate is 20 the reply stands in the buffer
+  abbrev Row : Outcome → Type 0
+  Row o = (fateNumber (o .answer .fate) ≡ 20 → Written r o) → Leaves (o .answer .fate) u p end link m r o
+
+  abbrev Rows : Status → TheUnit → List ℕ → List ℕ → Type 0
+  Rows = Answers u h path p end link m r Row
+
+  abbrev first : Status
+  first = headerStatus u h path link
+
+  -- refused: the unit is counted, whether there is a reply or not
+  refused-row : (s : Status) (n d : List ℕ) → isSuccess s ≡ false → s ≡ statusDue u p h end link → n ≡ refusedOn h s p m → Rows s u n d
+  unfolding countedFor
+  refused-row s n d e due memory = (
+    λ w written. (λ f. absurd (false≢true (sym e ∙ f)), λ f. (h, read, w, due, e, refl, memory), written refl),
+    λ w. rw e (λ written. ((h, read, w, due, e, refl, memory), (refl, refl))),
+  )
+
+  -- obeyed, on memory and on fields
+  memory-done : (s : Status) (n d : List ℕ) → isSuccess s ≡ true → s ≡ statusDue u p h end link → h .protocol ≡ 0x01 → n ≡ obeyedOn (kindIn h) h p m → Rows s u n d
+  unfolding countedFor
+  memory-done s n d e due q memory = (
+    λ w written. (λ f. (h, read, w, rw due at e, inl (q, refl, memory)), λ f. absurd (false≢true (sym f ∙ e)), written refl),
+    λ w. rw e (λ written. ((h, read, w, rw due at e, inl (q, refl, memory)), (refl, refl))),
+  )
+
+  fields-done : (s : Status) (v : TheUnit) (d : List ℕ) → isSuccess s ≡ true → s ≡ statusDue u p h end link → (h .protocol ≡ 0x01 → ⊥) → v ≡ withOwnable u v → Rows s v m d
+  fields-done s v d e due q only = (
+    λ w written. (
+      λ f. (h, read, w, rw due at e, inr (protocol-other p (u .number) h read q, only-ownable 20 (Replied s) u v (replied-counted s u) only, refl)),
+      λ f. absurd (false≢true (sym f ∙ e)),
+      written refl,
+    ),
+    λ w. rw e (λ written. (
+      (h, read, w, rw due at e, inr (protocol-other p (u .number) h read q, only-ownable 18 Obeyed u v (obeyed-counted u) only, refl)),
+      (refl, refl),
+    )),
+  )
+
+  abbrev from : ℕ
+  from = headerSize (h .instruction)
+
+  abbrev status : Status
+  status = dataStatus (drop from p) (wantedCount h) end
+
+  -- past the header the data decide
+  module _ (accepted : isSuccess first ≡ true) where
+    due : status ≡ statusDue u p h end link
+    due = rw accepted
+
+    memory-row : h .protocol ≡ 0x01
+        → Rows status u (stored (memoryAction h status from (length p - from)) p m) (dataFor (memoryAction h status from (length p - from)) u link m)
+    memory-row e = go (isSuccess status) refl
+      where
+        go : (t : Bool) → isSuccess status ≡ t
+            → Rows status u (stored (memoryAction h status from (length p - from)) p m) (dataFor (memoryAction h status from (length p - from)) u link m)
+        go true f = memory-done status _ _ f due e (obeyed-memory (kindIn h) h status p m f)
+        go false f = refused-row status _ _ f due (refused-memory h status p m e f (data-refuses (drop from p) (wantedCount h) end f))
+
+    fields-row : (h .protocol ≡ 0x01 → ⊥)
+        → Rows status (changed (fieldAction h status p from) u (h .initiator) path link) m (dataFor (fieldAction h status p from) u link m)
+    fields-row e =
+        field-changes u h path p link from (λ v. Rows status v m d) (isSuccess status) (kindIn h) (same (isSuccess status) refl)
+        (λ new expected t k. fields-done status (withOwner u (swapped (u .owner) new expected (h .initiator) path link)) d t due e refl)
+        (λ word t k. (
+          fields-done status (withClock u (timeCodeWritten (u .clock) word)) d t due e (code-only u word),
+          fields-done status (withFields u (dividerWritten (u .fields) word)) d t due e (divider-only u word),
+        ))
+      where
+        d : List ℕ
+        d = dataFor (fieldAction h status p from) u link m
+
+        same : (t : Bool) → isSuccess status ≡ t → Rows status u m d
+        same true t = fields-done status u d t due e refl
+        same false t = refused-row status m d t due (field-memory h status p m e)
+
+  -- what the reply holds
+  written : usable u (length m) ≡ true → Digits 256 p → fateNumber (takeCommand u h path p end link m r .answer .fate) ≡ 20
+      → Written r (takeCommand u h path p end link m r)
+  unfolding takeCommand
+  written works bytes n =
+      let w = reply-written u h path p end link m r works (header-whole p (u .number) h read) (length-below p (u .number) h read bytes) n in
+      let plan = decided u h path p end link (length r) in
+      (replyOf path h (byteOf (plan .status)) (dataFor (plan .action) u link m), w .1, w .0, omega (arith, w .0, w .2))
+
+  command-row : usable u (length m) ≡ true → Digits 256 p
+      → Leaves (takeCommand u h path p end link m r .answer .fate) u p end link m r (takeCommand u h path p end link m r)
+  command-row works bytes =
+      command-is u h path p end link m r Row (λ w. (refl, refl, (refl, refl)))
+      (λ e. refused-row first m [] e (rw e) (header-memory h first p m (header-gives u h path link))) (λ q a. memory-row a q) (λ q a. fields-row a q)
+      (written works bytes)
+
+-- ---- every packet
+
+unread-counted : (why : Refusal) (u : TheUnit) → countedUnit (Unread why) u ≡ countedAs (numberOf why) u
+unfolding countedFor
+unread-counted Incomplete u = refl
+unread-counted UnknownProtocol u = refl
+unread-counted ExtendedProtocol u = refl
+unread-counted Reply u = refl
+unread-counted HeaderCrc u = refl
+
+pub row-by-row : RowByRow ours
+unfolding countedFor
+row-by-row u p end link m r bytes =
+    packets-are u p end link m m r refl (λ o o′. Leaves (o .answer .fate) u p end link m r o)
+    (λ e. (refl, refl, (refl, refl)))
+    (λ e f. (refl, refl, (refl, refl)))
+    (λ e f why g. (g, (unread-counted why u, refl, (refl, refl))))
+    (λ e f g w. ((g, w), (refl, refl, (refl, refl))))
+    (λ e f g t w. (t, (g, w), refl, refl, (refl, refl)))
+    (λ e f h g. command-row u p end link m r h g e bytes)

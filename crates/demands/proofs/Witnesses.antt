@@ -1,0 +1,68 @@
+-- Witnesses: a small unit and packets to it. Their CRCs, and what document 01 says of them, were worked out apart from the definitions.
+use mathlib.Core.Bool.{true, false}
+use mathlib.Core.List.{List, [], _∷_}
+use Prim.Native.Nat.{ℕ}
+use lib.ListN.{replicate}
+use Rattle.unit.specs.declared.clock.Waiting.the-variants.{NoValue}
+use Rattle.unit.specs.declared.windows.Window.{Window}
+use Rattle.unit.specs.declared.unit.Unit.{Unit as TheUnit}
+
+-- a unit as the bench's, with 8 bytes of memory and one window over them, that has counted a number of packets
+
+abbrev pub none : Window
+none = record { start = 0; end = 0; read = false; write = false }
+
+abbrev pub unit : ℕ → TheUnit
+unit before = record {
+  logical = 0x43;
+  key = 0x2A;
+  number = 0xF0;
+  links = 4;
+  windows = record { table = record { start = 0; end = 8; read = true; write = true } ∷ replicate 15 none; count = 1 };
+  fields = record {
+    vendor = 0;
+    version = 0;
+    status = 0;
+    active = 0;
+    information = 0;
+    maker = 0;
+    serial = 0;
+    base = 0;
+    range = 0;
+    divider = 0;
+  };
+  owner = record { device = 0; initiator = 0; path = record { bytes = replicate 12 0; count = 0 }; link = 0 };
+  clock = record { last = 0; elapsed = record { value = 0; epoch = 0x9F }; waiting = NoValue };
+  counters = 0 ∷ 0 ∷ 0 ∷ 0 ∷ 0 ∷ 0 ∷ 0 ∷ 0 ∷ 0 ∷ before ∷ before ∷ [];
+}
+
+abbrev pub memory : List ℕ
+memory = replicate 8 0x10
+
+abbrev pub buffer : List ℕ
+buffer = replicate 20 0xEE
+
+-- a write of 61 62 at 0, one of 63 64 at 4, and a read that passes the end of memory by one
+abbrev pub write-0 : List ℕ
+write-0 =
+    0xFE ∷ 0x01 ∷ 0x6C ∷ 0x2A ∷ 0x67 ∷ 0x00 ∷ 0x01 ∷ 0x00 ∷ 0x00 ∷ 0x00 ∷ 0x00 ∷ 0x00 ∷ 0x00 ∷ 0x00 ∷ 0x02 ∷ 0xA0 ∷ 0x61 ∷ 0x62 ∷ 0xB8 ∷ []
+
+abbrev pub write-4 : List ℕ
+write-4 =
+    0xFE ∷ 0x01 ∷ 0x6C ∷ 0x2A ∷ 0x67 ∷ 0x00 ∷ 0x01 ∷ 0x00 ∷ 0x00 ∷ 0x00 ∷ 0x00 ∷ 0x04 ∷ 0x00 ∷ 0x00 ∷ 0x02 ∷ 0xD3 ∷ 0x63 ∷ 0x64 ∷ 0x86 ∷ []
+
+abbrev pub read-past : List ℕ
+read-past = 0xFE ∷ 0x01 ∷ 0x4C ∷ 0x2A ∷ 0x67 ∷ 0x00 ∷ 0x01 ∷ 0x00 ∷ 0x00 ∷ 0x00 ∷ 0x00 ∷ 0x07 ∷ 0x00 ∷ 0x00 ∷ 0x02 ∷ 0xFC ∷ []
+
+-- that read with a wrong header CRC; an unused code; a write of 61 62 at 0, no reply asked for; a time packet
+abbrev pub wrong-crc : List ℕ
+wrong-crc = 0xFE ∷ 0x01 ∷ 0x4C ∷ 0x2A ∷ 0x67 ∷ 0x00 ∷ 0x01 ∷ 0x00 ∷ 0x00 ∷ 0x00 ∷ 0x00 ∷ 0x07 ∷ 0x00 ∷ 0x00 ∷ 0x02 ∷ 0x00 ∷ []
+
+abbrev pub unused-code : List ℕ
+unused-code = 0xFE ∷ 0x01 ∷ 0x44 ∷ 0x2A ∷ 0x67 ∷ 0x00 ∷ 0x01 ∷ 0x00 ∷ 0x00 ∷ 0x00 ∷ 0x00 ∷ 0x00 ∷ 0x00 ∷ 0x00 ∷ 0x00 ∷ 0xC7 ∷ []
+
+abbrev pub silent-write : List ℕ
+silent-write = 0xFE ∷ 0x01 ∷ 0x64 ∷ 0x2A ∷ 0x67 ∷ 0x00 ∷ 0x01 ∷ 0x00 ∷ 0x00 ∷ 0x00 ∷ 0x00 ∷ 0x00 ∷ 0x00 ∷ 0x00 ∷ 0x02 ∷ 0x5E ∷ 0x61 ∷ 0x62 ∷ 0xB8 ∷ []
+
+abbrev pub time : List ℕ
+time = 0xFE ∷ 0xF0 ∷ 0x9F ∷ 0x01 ∷ 0x00 ∷ 0x00 ∷ 0x00 ∷ 0x07 ∷ 0x12 ∷ 0x34 ∷ 0x56 ∷ 0x96 ∷ []

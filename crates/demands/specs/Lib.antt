@@ -1,0 +1,11 @@
+pub mod Terminal
+pub mod Demands
+pub mod Refusals
+pub mod Bounds
+pub mod Meaning
+pub mod Lists
+pub mod Counts
+pub mod Names
+pub mod Cases
+pub mod Outcomes
+pub mod Impostors

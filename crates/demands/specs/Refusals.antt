@@ -1,0 +1,248 @@
+-- Demand 1: the table of numbers, row by row (document 01, 'Numbers a caller gets' and 'Effects').
+use mathlib.Core.Path.{_≡_}
+use mathlib.Core.Bool.{Bool, true, false, cond, not, _&&_}
+use mathlib.Core.Logic.{_⊎_, _↔_}
+use mathlib.Core.List.{List, [], _∷_}
+use Prim.Native.Nat.{ℕ, _+_, _-_, _%_, _^_, _<_, _≤_, min}
+use lib.Dec.{eqb}
+use lib.ListN.{length, drop}
+use Rattle.octets.specs.Places.{part, placed}
+use Rattle.octets.specs.Numbers.{Digits}
+use Rattle.packets.specs.Instruction.{isWrite, isVerified, wantsReply, isIncrementing, headerSize}
+use Rattle.packets.specs.Reading.{numberOf}
+use Rattle.packets.specs.Reply.{replyLength}
+use Rattle.packets.specs.Time.{readTime}
+use Rattle.packets.specs.declared.instruction.Kind.{Kind}
+use Rattle.packets.specs.declared.instruction.Kind.the-variants.{Unused, Read, ReadModifyWrite, Write}
+use Rattle.packets.specs.declared.header.Header.{Header}
+use Rattle.packets.specs.declared.reading.End.{End}
+use Rattle.packets.specs.declared.reading.Reading.the-variants.{Refused, Time}
+use Rattle.packets.specs.declared.time.Time.{Time as TheTime}
+use Rattle.packets.specs.declared.time.TimeReading.{TimeReading}
+use Rattle.packets.specs.declared.time.TimeReading.the-variants.{ThrownAway, Taken}
+use Rattle.unit.specs.Some.{some}
+use Rattle.unit.specs.Fate.{byteOf, isSuccess, orElse, fateNumber, fateStatus}
+use Rattle.unit.specs.Counters.{bumpedAt, total}
+use Rattle.unit.specs.Clock.{afterTime}
+use Rattle.unit.specs.Usable.{usable, usableUnit}
+use Rattle.unit.specs.Decide.{kindIn, rmwCount, headerStatus, wantedCount, dataStatus}
+use Rattle.unit.specs.Plan.{replyCount}
+use Rattle.unit.specs.Act.{combined, lastOf, withCounters, withClock}
+use Rattle.unit.specs.Calls.{Outcome}
+use Rattle.unit.specs.declared.fate.Status.{Status}
+use Rattle.unit.specs.declared.fate.Fate.{Fate}
+use Rattle.unit.specs.declared.fate.Fate.the-variants.{TimeChanged, Unusable, NoSuchLink, NoRoom, Unread, TimeThrownAway, NotObeyed, Obeyed, TimeTaken, Replied}
+use Rattle.unit.specs.declared.fate.Told.{Told}
+use Rattle.unit.specs.declared.fate.Told.the-variants.{Nothing, Byte}
+use Rattle.unit.specs.declared.clock.Clock.{Clock}
+use Rattle.unit.specs.declared.calls.Answer.{Answer}
+use Rattle.unit.specs.declared.unit.Unit.{Unit as TheUnit}
+use Rattle.demands.specs.Terminal.{Terminal, isLink, ReadAs, IsCommand, pathIn, Every}
+
+-- ---- what a row says of the unit
+
+-- The unit with one more in the counter of a number from 11 to 20, and one more in the total; all else as it was.
+abbrev pub countedAs : ℕ → TheUnit → TheUnit
+countedAs number u = withCounters u (bumpedAt total (bumpedAt (number - 11) (u .counters)))
+
+-- The unit u with owner, last Time-Code and divider from v: what can be owned. Logical address, key, time number, link count, windows, the other fields, ET,
+-- the waiting value and the counters are those of u.
+abbrev pub withOwnable : TheUnit → TheUnit → TheUnit
+withOwnable u v = record {
+  logical = u .logical;
+  key = u .key;
+  number = u .number;
+  links = u .links;
+  windows = u .windows;
+  fields = record {
+    vendor = u .fields .vendor;
+    version = u .fields .version;
+    status = u .fields .status;
+    active = u .fields .active;
+    information = u .fields .information;
+    maker = u .fields .maker;
+    serial = u .fields .serial;
+    base = u .fields .base;
+    range = u .fields .range;
+    divider = v .fields .divider;
+  };
+  owner = v .owner;
+  clock = record { last = v .clock .last; elapsed = u .clock .elapsed; waiting = u .clock .waiting };
+  counters = u .counters;
+}
+
+-- ---- what a row says of memory
+
+-- The first min(k, L) of the k bytes behind the header of the packet p.
+abbrev pub firstData : Header → List ℕ → List ℕ
+firstData h p = part (headerSize (h .instruction)) (min (length p - headerSize (h .instruction)) (h .length)) p
+
+-- A write puts them into memory from A on; single, it leaves the last of them at A.
+abbrev pub writtenTo : Header → List ℕ → List ℕ → List ℕ
+writtenTo h p m = placed (h .address) (cond (isIncrementing (h .instruction)) (firstData h p) (lastOf (firstData h p))) m
+
+-- An RMW combines the n = L/2 bytes that it reads from A on with n data and then n masks.
+abbrev pub combinedIn : Header → List ℕ → List ℕ → List ℕ
+combinedIn h p m =
+    placed (h .address)
+    (combined (part (h .address) (rmwCount h) m) (part (headerSize (h .instruction)) (rmwCount h) p)
+    (part (headerSize (h .instruction) + rmwCount h) (rmwCount h) p)) m
+
+-- What an obeyed RMAP command leaves in memory, by its kind.
+abbrev pub obeyedOn : Kind → Header → List ℕ → List ℕ → List ℕ
+obeyedOn Unused h p m = m
+obeyedOn Read h p m = m
+obeyedOn ReadModifyWrite h p m = combinedIn h p m
+obeyedOn Write h p m = writtenTo h p m
+
+-- What a refused command leaves: an RMAP write without verify has stored, where it ended in 4, 5, 6 or 7; nothing else has.
+abbrev pub hasStored : Header → Status → Bool
+hasStored h s =
+    eqb (h .protocol) 0x01 && isWrite (h .instruction) && not (isVerified (h .instruction)) && some (eqb (byteOf s)) (4 ∷ 5 ∷ 6 ∷ 7 ∷ [])
+
+abbrev pub refusedOn : Header → Status → List ℕ → List ℕ → List ℕ
+refusedOn h s p m = cond (hasStored h s) (writtenTo h p m) m
+
+-- ---- what a row says of the reply buffer
+
+-- No reply: all bytes keep what they held.
+abbrev pub NoReply : List ℕ → Outcome → Type 0
+NoReply r o = (o .reply ≡ r) × (o .answer .length ≡ 0)
+
+-- A reply was written: it had room, its bytes stand first, and unused bytes keep what they held. (Which bytes: `Replies`, in Meaning.)
+abbrev pub Written : List ℕ → Outcome → Type 0
+Written r o = (bytes : List ℕ) × (o .reply ≡ placed 0 bytes r) × (o .answer .length ≡ length bytes) × (length bytes ≤ length r)
+
+-- ---- when a row is given
+
+-- The status that a command is due: the header's, and the data's where the header allows it; and the length of its reply.
+abbrev pub statusDue : TheUnit → List ℕ → Header → End → ℕ → Status
+statusDue u p h end link =
+    orElse (headerStatus u h (pathIn u p) link) (dataStatus (drop (headerSize (h .instruction)) p) (wantedCount h) end)
+
+abbrev pub lengthDue : TheUnit → List ℕ → Header → End → ℕ → ℕ
+lengthDue u p h end link = replyLength (pathIn u p) h (byteOf (statusDue u p h end link)) (replyCount h)
+
+-- The packet is read as a time packet, thrown away or taken.
+abbrev pub TimeReadAs : TheUnit → List ℕ → End → TimeReading → Type 0
+TimeReadAs u p end time = ReadAs u p Time × (readTime p end (u .logical) (u .number) ≡ time)
+
+-- ---- the rows
+
+-- 1, 2, 3: everything unchanged, nothing counted. When they are given: `OneTwoThree`.
+abbrev pub Unchanged : TheUnit → List ℕ → List ℕ → Outcome → Type 0
+Unchanged u m r o = (o .answer .unit ≡ u) × (o .memory ≡ m) × NoReply r o
+
+-- 11 to 16: counted, no reply.
+abbrev pub OnlyCounted : ℕ → TheUnit → List ℕ → List ℕ → Outcome → Type 0
+OnlyCounted number u m r o = (o .answer .unit ≡ countedAs number u) × (o .memory ≡ m) × NoReply r o
+
+-- 19: counted, no reply, and the time changed by what the packet says.
+abbrev pub TimeSet : TheUnit → List ℕ → End → List ℕ → List ℕ → Outcome → Type 0
+TimeSet u p end m r o =
+    (t : TheTime) × TimeReadAs u p end (Taken t) × (o .answer .unit ≡ countedAs 19 (withClock u (afterTime (u .clock) t))) × (o .memory ≡ m) × NoReply r o
+
+-- A command that asked for a reply or did not, refused with the status that it is due, which is not 0: counted.
+abbrev pub Refuses : Status → ℕ → Bool → TheUnit → List ℕ → End → ℕ → List ℕ → Outcome → Type 0
+Refuses s number asked u p end link m o =
+    (h : Header)
+    × IsCommand u p h
+    × (wantsReply (h .instruction) ≡ asked)
+    × (s ≡ statusDue u p h end link)
+    × (isSuccess s ≡ false)
+    × (o .answer .unit ≡ countedAs number u)
+    × (o .memory ≡ refusedOn h s p m)
+
+-- A command that asked for a reply or did not, obeyed, since status 0 is due: counted, effect done. RMAP changes nothing else of the unit. Plug-and-play
+-- changes no memory, and nothing of the unit that can't be owned; what it changes there the definitions say (`ByteByByte`, in Meaning).
+abbrev pub Obeys : ℕ → Bool → TheUnit → List ℕ → End → ℕ → List ℕ → Outcome → Type 0
+Obeys number asked u p end link m o =
+    (h : Header)
+    × IsCommand u p h
+    × (wantsReply (h .instruction) ≡ asked)
+    × (isSuccess (statusDue u p h end link) ≡ true)
+    × (((h .protocol ≡ 0x01) × (o .answer .unit ≡ countedAs number u) × (o .memory ≡ obeyedOn (kindIn h) h p m))
+    ⊎ ((h .protocol ≡ 0x03) × (o .answer .unit ≡ countedAs number (withOwnable u (o .answer .unit))) × (o .memory ≡ m)))
+
+-- The table: when a packet p with its end and link gets a fate, and what it then leaves of unit, memory and reply buffer.
+abbrev pub Leaves : Fate → TheUnit → List ℕ → End → ℕ → List ℕ → List ℕ → Outcome → Type 0
+Leaves TimeChanged u p end link m r o = ⊥  -- 0 is no packet's
+Leaves Unusable u p end link m r o = Unchanged u m r o  -- 1
+Leaves NoSuchLink u p end link m r o = Unchanged u m r o  -- 2
+Leaves NoRoom u p end link m r o = Unchanged u m r o  -- 3
+Leaves (Unread why) u p end link m r o = ReadAs u p (Refused why) × OnlyCounted (numberOf why) u m r o  -- 11 to 15
+Leaves TimeThrownAway u p end link m r o = TimeReadAs u p end ThrownAway × OnlyCounted 16 u m r o
+Leaves (NotObeyed s) u p end link m r o = Refuses s 17 false u p end link m o × NoReply r o
+Leaves Obeyed u p end link m r o = Obeys 18 false u p end link m o × NoReply r o
+Leaves TimeTaken u p end link m r o = TimeSet u p end m r o  -- 19
+Leaves (Replied s) u p end link m r o =
+    (isSuccess s ≡ true → Obeys 20 true u p end link m o) × (isSuccess s ≡ false → Refuses s 20 true u p end link m o) × Written r o
+
+-- ---- the demand
+
+-- Every packet of bytes, whatever its end, link, memory and reply buffer, is due its fate by that fate's row, and leaves what the row says.
+abbrev pub RowByRow : Terminal → Type 0
+RowByRow t =
+    (u : TheUnit) (p : List ℕ) (end : End) (link : ℕ) (m r : List ℕ) → Digits 256 p
+    → Leaves (t .packet u p end link m r .answer .fate) u p end link m r (t .packet u p end link m r)
+
+-- 1 goes before 2, 2 before all else. 1 exactly if the unit is unusable with that memory; 2 exactly if it is usable, and the link is 0 or above
+-- the link count; 3 exactly if neither is so, and the packet is a command whose reply, asked for, is longer than the reply buffer.
+abbrev pub OneTwoThree : Terminal → Type 0
+OneTwoThree t =
+    (u : TheUnit) (p : List ℕ) (end : End) (link : ℕ) (m r : List ℕ)
+    → ((fateNumber (t .packet u p end link m r .answer .fate) ≡ 1) ↔ (usable u (length m) ≡ false))
+    × ((fateNumber (t .packet u p end link m r .answer .fate) ≡ 2) ↔ ((usable u (length m) ≡ true) × (isLink u link ≡ false)))
+    × ((fateNumber (t .packet u p end link m r .answer .fate) ≡ 3)
+    ↔ ((usable u (length m) ≡ true)
+    × (isLink u link ≡ true)
+    × ((h : Header) × IsCommand u p h × (wantsReply (h .instruction) ≡ true) × (length r < lengthDue u p h end link))))
+
+-- The small calls answer 1 and leave the unit, where it is unusable for another cause than memory; else 0, and only the time changes. Neither
+-- counts, and neither has a reply. A Time-Code becomes the last one, whoever owns the unit: it is no packet. Ticks leave the last one, and
+-- what waits.
+abbrev pub SmallRow : (Clock → Type 0) → TheUnit → Answer → Type 0
+SmallRow Moved u a =
+    ((usableUnit u ≡ false) × (fateNumber (a .fate) ≡ 1) × (a .unit ≡ u) × (a .length ≡ 0))
+    ⊎ ((usableUnit u ≡ true) × (fateNumber (a .fate) ≡ 0) × (a .unit ≡ withClock u (a .unit .clock)) × Moved (a .unit .clock) × (a .length ≡ 0))
+
+abbrev pub ByCode : ℕ → Clock → Type 0
+ByCode byte c = c .last ≡ byte % 2 ^ 6
+
+abbrev pub ByTicks : TheUnit → Clock → Type 0
+ByTicks u c = (c .last ≡ u .clock .last) × (c .waiting ≡ u .clock .waiting)
+
+abbrev pub SmallRows : Terminal → Type 0
+SmallRows t =
+    ((u : TheUnit) (byte : ℕ) → SmallRow (ByCode byte) u (t .timeCode u byte)) × ((u : TheUnit) (count : ℕ) → SmallRow (ByTicks u) u (t .ticks u count))
+
+-- ---- the numbers
+
+abbrev pub numbers : List ℕ
+numbers = 1 ∷ 2 ∷ 3 ∷ 11 ∷ 12 ∷ 13 ∷ 14 ∷ 15 ∷ 16 ∷ 17 ∷ 18 ∷ 19 ∷ 20 ∷ []
+
+-- 1 and 8 are not used.
+abbrev pub statuses : List ℕ
+statuses = 0 ∷ 2 ∷ 3 ∷ 4 ∷ 5 ∷ 6 ∷ 7 ∷ 9 ∷ 10 ∷ 11 ∷ 12 ∷ 0xF0 ∷ 0xF1 ∷ 0xF2 ∷ 0xF3 ∷ []
+
+-- 17, 18 and 20 have a status, the others none.
+abbrev pub Carries : ℕ → Told → Type 0
+Carries number Nothing = some (eqb number) (17 ∷ 18 ∷ 20 ∷ []) ≡ false
+Carries number (Byte status) = (some (eqb number) (17 ∷ 18 ∷ 20 ∷ []) ≡ true) × (some (eqb status) statuses ≡ true)
+
+-- A packet gets one of these numbers (one, since a fate has one), with a status or none. Most of that holds of the enum `Fate`, whatever a terminal does; which
+-- fate a packet has is said by the rows.
+abbrev pub Listed : Terminal → Type 0
+Listed t =
+    (u : TheUnit) (p : List ℕ) (end : End) (link : ℕ) (m r : List ℕ)
+    → (some (eqb (fateNumber (t .packet u p end link m r .answer .fate))) numbers ≡ true)
+    × Carries (fateNumber (t .packet u p end link m r .answer .fate)) (fateStatus (t .packet u p end link m r .answer .fate))
+
+-- No row is empty: each of the numbers is some packet's.
+abbrev pub Gives : Terminal → ℕ → Type 0
+Gives t number =
+    (u : TheUnit) × (p : List ℕ) × (end : End) × (link : ℕ) × (m : List ℕ) × (r : List ℕ)
+    × (fateNumber (t .packet u p end link m r .answer .fate) ≡ number)
+
+abbrev pub NoRowEmpty : Terminal → Type 0
+NoRowEmpty t = Every (Gives t) numbers
