@@ -6,58 +6,31 @@ use Prim.Native.Nat.{ℕ, _+_, _-_, _%_, _^_, _<_, _≤_}
 use native.Mathlib.Omega.{arith}
 use borrow.Author.Tests.{eqb-true, eqb-false, eq-eqb, ne-eqb, ltb-true, ltb-false, lt-ltb}
 use lib.Dec.{eqb, ltb}
-use lib.ListN.{length, getD, set, drop, length-set}
+use lib.ListN.{length, getD, set, length-set}
 use lib.Seq.{getD-set-same, getD-set-other}
 use Rattle.octets.proofs.NumberLaws.{digits-at}
-use Rattle.packets.specs.Instruction.{headerSize}
-use Rattle.packets.specs.Reading.{readPacket}
-use Rattle.packets.specs.declared.header.Header.{Header}
-use Rattle.packets.specs.declared.path.Path.{Path}
 use Rattle.packets.specs.declared.reading.End.{End}
 use Rattle.packets.specs.declared.reading.Refusal.the-variants.{Incomplete, UnknownProtocol, ExtendedProtocol, Reply, HeaderCrc}
-use Rattle.unit.specs.Fate.{isSuccess, fateNumber}
+use Rattle.unit.specs.Fate.{fateNumber}
 use Rattle.unit.specs.Counters.{bumpedAt, counterOf, total, countedFor}
 use Rattle.unit.specs.Usable.{usableUnit}
 use Rattle.unit.specs.Clock.{afterCode, afterTicks}
-use Rattle.unit.specs.Decide.{kindIn, wantedCount, dataStatus}
-use Rattle.unit.specs.Plan.{unansweredFate, fieldAction}
-use Rattle.unit.specs.Act.{changed, withClock}
-use Rattle.unit.specs.Calls.{takePacket, withoutReply, smallCall, takeTimeCode, takeTicks}
-use Rattle.unit.specs.declared.fate.Status.{Status}
+use Rattle.unit.specs.Act.{withClock}
+use Rattle.unit.specs.Calls.{Outcome, takePacket, withoutReply, smallCall, takeTimeCode, takeTicks}
 use Rattle.unit.specs.declared.fate.Fate.{Fate}
 use Rattle.unit.specs.declared.fate.Fate.the-variants.{TimeChanged, Unusable, NoSuchLink, NoRoom, Unread, TimeThrownAway, NotObeyed, Obeyed, TimeTaken, Replied}
 use Rattle.unit.specs.declared.clock.Clock.{Clock}
 use Rattle.unit.specs.declared.unit.Unit.{Unit as TheUnit}
-use Rattle.unit.proofs.CommandLaws.{packet-is, command-is, field-changes}
+use Rattle.unit.proofs.CounterLaws.{counters-aside}
 use Rattle.demands.specs.Terminal.{ours, Call, packet, timeCode, ticks, answerTo, after, fatesOf}
 use Rattle.demands.specs.Counts.{countOf, countOfAll, counted, CountersAreHistory, LowCountNothing}
 
 -- ---- each call counts its fate
 
--- no field command touches a counter
-fields-uncounted : (u : TheUnit) (h : Header) (path : Path) (p : List ℕ) (link from : ℕ) (s : Status)
-    → changed (fieldAction h s p from) u (h .initiator) path link .counters ≡ u .counters
-fields-uncounted u h path p link from s =
-    field-changes u h path p link from (λ v. v .counters ≡ u .counters) (isSuccess s) (kindIn h) refl (λ new expected t k. refl) (λ word t k. (refl, refl))
-
+-- with its own counters a unit is itself
 packet-counts : (u : TheUnit) (p : List ℕ) (end : End) (link : ℕ) (m r : List ℕ)
     → takePacket u p end link m r .answer .unit .counters ≡ countedFor (takePacket u p end link m r .answer .fate) (u .counters)
-unfolding countedFor
-packet-counts u p end link m r =
-    packet-is u p end link m r (λ o. o .answer .unit .counters ≡ countedFor (o .answer .fate) (u .counters)) (λ e. refl) (λ e f. refl) (λ e f why g. refl)
-    (λ e f g. refl) (λ e f g t. refl)
-    (λ e f h g. command-is u h path p end link m r (λ o. o .answer .unit .counters ≡ countedFor (o .answer .fate) (u .counters)) refl
-    (λ a. (λ w. refl, λ w. refl)) (λ b a. (λ w. refl, λ w. refl))
-    (λ b a. (λ w. ap (countedFor (Replied (second h))) (kept h), λ w. ap (countedFor (unansweredFate (second h))) (kept h))))
-  where
-    path : Path
-    path = readPacket p (u .number) .path
-
-    second : Header → Status
-    second h = dataStatus (drop (headerSize (h .instruction)) p) (wantedCount h) end
-
-    kept : (h : Header) → changed (fieldAction h (second h) p (headerSize (h .instruction))) u (h .initiator) path link .counters ≡ u .counters
-    kept h = fields-uncounted u h path p link (headerSize (h .instruction)) (second h)
+packet-counts u p end link m r = ap (λ (o : Outcome). o .answer .unit .counters) (counters-aside u (u .counters) p end link m r)
 
 small-counts : (u : TheUnit) (c : Clock) → smallCall u (withClock u c) .unit .counters ≡ countedFor (smallCall u (withClock u c) .fate) (u .counters)
 unfolding countedFor

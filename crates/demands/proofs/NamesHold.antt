@@ -15,7 +15,7 @@ use Rattle.packets.specs.declared.header.Header.{Header}
 use Rattle.packets.specs.declared.path.Path.{Path}
 use Rattle.packets.specs.declared.reading.End.{End}
 use Rattle.packets.specs.declared.reading.Reading.the-variants.{Refused, Time, Command}
-use Rattle.packets.proofs.ReadingLaws.{one-command}
+use Rattle.packets.proofs.ReadingLaws.{not-command, one-command}
 use Rattle.unit.specs.Some.{some}
 use Rattle.unit.specs.Fate.{byteOf, isSuccess, fateNumber, fateStatus}
 use Rattle.unit.specs.Fields.{fieldOf, aboveField, above, named, missing, rowOf, isMissing}
@@ -32,7 +32,7 @@ use Rattle.unit.proofs.DecideLaws.{memory-passed, fields-passed, span-passed, n
 use Rattle.unit.proofs.CommandLaws.{packet-is, command-is}
 use Rattle.unit.proofs.GrantLaws.{authorised-window, authorised-extended}
 use Rattle.demands.proofs.Below.{below}
-use Rattle.demands.proofs.NumbersHold.{no-command, one-two-three}
+use Rattle.demands.proofs.NumbersHold.{one-two-three}
 use Rattle.demands.specs.Terminal.{ours}
 use Rattle.demands.specs.Refusals.{lengthDue}
 use Rattle.demands.specs.Names.{register, RowsKept, NamesMissing, MissingRefused, MissingIsF1, WindowWithRight, ObeyedInWindow}
@@ -166,8 +166,8 @@ missing-refused u p end link m r h is fields lacks =
 pub missing-is-f1 : MissingIsF1 ours
 missing-is-f1 u p end link m r h is fields lacks works there o n fits =
     packet-is u p end link m r (SaysF1 u p end link m r h is fields lacks) (λ e. absurd (false≢true (sym e ∙ works))) (λ e f. absurd (false≢true (sym f ∙ there)))
-    (λ e f why g. absurd (no-command h (Refused why) refl (sym is ∙ g))) (λ e f g. absurd (no-command h Time refl (sym is ∙ g)))
-    (λ e f g t. absurd (no-command h Time refl (sym is ∙ g)))
+    (λ e f why g. absurd (not-command (Refused why) (omega arith) (sym g ∙ is))) (λ e f g. absurd (not-command Time (omega arith) (sym g ∙ is)))
+    (λ e f g t. absurd (not-command Time (omega arith) (sym g ∙ is)))
     (λ e f k g. rw (one-command (readPacket p (u .number) .reading) h k is g) (command-f1 u p end link m r h is fields lacks o n)) room
   where
     room : fateNumber (takePacket u p end link m r .answer .fate) ≡ 3 → ⊥

@@ -1,5 +1,5 @@
 -- Demand 1, which number is given, holds: 1, 2 and 3 exactly where they are due, the small calls, and the list of numbers and statuses.
-use mathlib.Core.Path.{_≡_, refl, sym, _∙_, ap}
+use mathlib.Core.Path.{_≡_, refl, sym, _∙_}
 use mathlib.Core.Bool.{Bool, true, false, cond, _&&_, false≢true}
 use mathlib.Core.Logic.{inl, inr, _↔_}
 use mathlib.Core.List.{List}
@@ -11,8 +11,7 @@ use Rattle.packets.specs.Instruction.{wantsReply}
 use Rattle.packets.specs.Reading.{numberOf, readPacket}
 use Rattle.packets.specs.declared.header.Header.{Header}
 use Rattle.packets.specs.declared.reading.End.{End}
-use Rattle.packets.specs.declared.reading.Reading.{Reading}
-use Rattle.packets.specs.declared.reading.Reading.the-variants.{Refused, Time, Command}
+use Rattle.packets.specs.declared.reading.Reading.the-variants.{Refused, Time}
 use Rattle.packets.specs.declared.reading.Refusal.{Refusal}
 use Rattle.packets.specs.declared.reading.Refusal.the-variants.{Incomplete, UnknownProtocol, ExtendedProtocol, Reply, HeaderCrc}
 use Rattle.unit.specs.Some.{some}
@@ -20,7 +19,7 @@ use Rattle.unit.specs.Fate.{byteOf, fateNumber, fateStatus}
 use Rattle.unit.specs.Clock.{atWrap, fractionSet, afterCode, afterTicks}
 use Rattle.unit.specs.Usable.{usable, usableUnit}
 use Rattle.unit.specs.Act.{withClock}
-use Rattle.unit.specs.Calls.{withoutReply, takeCommand, takePacket, smallCall, takeTimeCode, takeTicks}
+use Rattle.unit.specs.Calls.{isLink, withoutReply, takeCommand, takePacket, smallCall, takeTimeCode, takeTicks}
 use Rattle.unit.specs.declared.fate.Status.{Status}
 use Rattle.unit.specs.declared.fate.Status.the-variants.{Success, UnusedCode, WrongKey, DataCrc, EarlyEop, TooMuchData, EndedByEep, VerifyOverrun}
 use Rattle.unit.specs.declared.fate.Status.the-variants.{NotAuthorised, RmwLength, WrongAddress, NotOwner, NoSuchField, ReadOnlyField, PlainDeviceId}
@@ -29,27 +28,14 @@ use Rattle.unit.specs.declared.fate.Fate.the-variants.{TimeChanged, Unusable, U
 use Rattle.unit.specs.declared.clock.Clock.{Clock}
 use Rattle.unit.specs.declared.clock.Waiting.the-variants.{NoValue}
 use Rattle.unit.specs.declared.unit.Unit.{Unit as TheUnit}
+use Rattle.unit.proofs.FateLaws.{unread-number}
 use Rattle.unit.proofs.PlanLaws.{plan-status, roomless-plan}
 use Rattle.unit.proofs.CommandLaws.{packet-is, command-fate}
-use Rattle.packets.proofs.ReadingLaws.{one-command}
-use Rattle.demands.specs.Terminal.{ours, isLink, IsCommand, pathIn}
+use Rattle.packets.proofs.ReadingLaws.{not-command, one-command}
+use Rattle.demands.specs.Terminal.{ours, IsCommand, pathIn}
 use Rattle.demands.specs.Refusals.{lengthDue, OneTwoThree, SmallRow, ByCode, ByTicks, SmallRows, numbers, statuses, Carries, Listed}
 
 -- ---- 1 goes before 2, 2 before all else; and 3
-
-unread-high : (why : Refusal) → 11 ≤ numberOf why
-unread-high Incomplete = omega arith
-unread-high UnknownProtocol = omega arith
-unread-high ExtendedProtocol = omega arith
-unread-high Reply = omega arith
-unread-high HeaderCrc = omega arith
-
--- what is read as something else is no command
-abbrev is-command : Reading → Bool
-is-command q = elim q [ Refused why ↦ false | Time ↦ false | Command h ↦ true ]
-
-pub no-command : (h : Header) (q : Reading) → is-command q ≡ false → Command h ≡ q → ⊥
-no-command h q e f = false≢true (sym e ∙ sym (ap is-command f))
 
 module _ (u : TheUnit) (p : List ℕ) (end : End) (link : ℕ) (m r : List ℕ) where
   abbrev Works : Type 0
@@ -99,9 +85,9 @@ module _ (u : TheUnit) (p : List ℕ) (end : End) (link : ℕ) (m r : List ℕ) 
         (λ n. (e, f), λ g. refl),
         (λ n. absurd (omega (arith, n)), λ g. absurd (false≢true (sym f ∙ g .1))),
       ))
-      (λ e f why g. never e f (numberOf why) (unread-high why) (λ h is. no-command h (Refused why) refl (sym is ∙ g)))
-      (λ e f g. never e f 16 (omega arith) (λ h is. no-command h Time refl (sym is ∙ g)))
-      (λ e f g t. never e f 19 (omega arith) (λ h is. no-command h Time refl (sym is ∙ g)))
+      (λ e f why g. never e f (numberOf why) (unread-number why .0) (λ h is. not-command (Refused why) (omega arith) (sym g ∙ is)))
+      (λ e f g. never e f 16 (omega arith) (λ h is. not-command Time (omega arith) (sym g ∙ is)))
+      (λ e f g t. never e f 19 (omega arith) (λ h is. not-command Time (omega arith) (sym g ∙ is)))
       (λ e f h g. later e f (fateNumber (takeCommand u h (pathIn u p) p end link m r .answer .fate))
       (command-fate u h (pathIn u p) p end link m r (λ f. 3 ≤ fateNumber f) (omega arith) (λ s. omega arith) (λ s e. omega arith) (omega arith))
       (command-three h g))

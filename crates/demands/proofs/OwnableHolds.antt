@@ -6,9 +6,6 @@ use mathlib.Core.List.{List, [], _∷_}
 use Prim.Native.Nat.{ℕ, _-_, _<_}
 use borrow.Author.Tests.{eqb-true, eq-eqb}
 use lib.Dec.{eqb}
-use lib.ListN.{drop}
-use Rattle.packets.specs.Instruction.{headerSize}
-use Rattle.packets.specs.Reading.{readPacket}
 use Rattle.packets.specs.declared.instruction.Kind.the-variants.{ReadModifyWrite}
 use Rattle.packets.specs.declared.header.Header.{Header}
 use Rattle.packets.specs.declared.path.Path.{Path}
@@ -22,17 +19,15 @@ use Rattle.unit.specs.Fate.{isSuccess}
 use Rattle.unit.specs.Clock.{setAt, afterTime}
 use Rattle.unit.specs.Owner.{isOwner, unowned, swapped}
 use Rattle.unit.specs.Fields.{deviceId, missing, rowOf, valuesOf}
-use Rattle.unit.specs.Decide.{kindIn, isRmw, isAllowed, headerStatus, wantedCount, dataStatus}
-use Rattle.unit.specs.Plan.{fieldAction}
-use Rattle.unit.specs.Act.{changed, withOwner}
+use Rattle.unit.specs.Decide.{kindIn, isRmw, isAllowed, headerStatus}
+use Rattle.unit.specs.Act.{withOwner}
 use Rattle.unit.specs.Calls.{takePacket}
-use Rattle.unit.specs.declared.fate.Status.{Status}
 use Rattle.unit.specs.declared.clock.Clock.{Clock}
 use Rattle.unit.specs.declared.owner.Owner.{Owner}
 use Rattle.unit.specs.declared.unit.Unit.{Unit as TheUnit}
 use Rattle.unit.proofs.FieldLaws.{swapped-row}
 use Rattle.unit.proofs.DecideLaws.{fields-passed, named-passed}
-use Rattle.unit.proofs.CommandLaws.{packet-is, command-is, field-changes}
+use Rattle.unit.proofs.CommandLaws.{unit-is}
 use Rattle.packets.proofs.ReadingLaws.{protocol-other}
 use Rattle.demands.proofs.Below.{below}
 use Rattle.demands.proofs.RefusalsHold.{divider-only}
@@ -101,19 +96,14 @@ module _ (u : TheUnit) (p : List ℕ) (end : End) (link : ℕ) (m r : List ℕ) 
         go true e a = claims k new expected (eqb-true (u .owner .device) 0 e)
         go false e a = inr (h, read, known, inl a)
 
-    fields-allowed : (s : Status) (from : ℕ) → Allowed (changed (fieldAction h s p from) u (h .initiator) path link)
-    fields-allowed s from =
-        field-changes u h path p link from Allowed (isSuccess s) (kindIn h) (inl same) (λ new expected t k. swaps k new expected)
-        (λ word t k. (inr (h, read, known, inl (rw k at allowed)), inr (h, read, known, inl (rw k at allowed))))
-
   packet-allowed : Allowed (takePacket u p end link m r .answer .unit)
   unfolding afterTime
   packet-allowed =
-      packet-is u p end link m r (λ o. Allowed (o .answer .unit)) (λ e. inl same) (λ e f. inl same) (λ e f why g. inl same) (λ e f g. inl same)
-      (λ e f g t. inl (refl, refl, last-stays (t .when) (u .clock) t, refl))
-      (λ e f h g. command-is u h path p end link m r (λ o. Allowed (o .answer .unit)) (inl same) (λ a. (λ w. inl same, λ w. inl same))
-      (λ b a. (λ w. inl same, λ w. inl same))
-      (λ b a. let v = fields-allowed h g b a (dataStatus (drop (headerSize (h .instruction)) p) (wantedCount h) end) (headerSize (h .instruction)) in (λ w. v, λ w. v)))
+      unit-is u p end link m r Allowed (λ f v x. x) (inl same) (λ w t g. inl (refl, refl, last-stays (t .when) (u .clock) t, refl))
+      (λ w there h g q a. (
+        λ k new expected. swaps h g q a k new expected,
+        λ k word. let owner = inl (rw k at (allowed h g q a)) in (inr (h, g, known h g q a, owner), inr (h, g, known h g q a, owner)),
+      ))
 
 pub ownable-is-owners : OwnableIsOwners ours
 ownable-is-owners u p end link m r other = go (packet-allowed u p end link m r)
@@ -126,29 +116,21 @@ ownable-is-owners u p end link m r other = go (packet-allowed u p end link m r)
     go (inr x) = x
 
 -- the owner changes by a swap on Device ID alone
-module _ (u : TheUnit) (p : List ℕ) (link : ℕ) where
-  abbrev Swapped : TheUnit → Type 0
-  Swapped v =
-      (v .owner ≡ u .owner)
-      ⊎ ((h : Header) × IsCommand u p h × (h .protocol ≡ 0x03) × (isRmw (kindIn h) ≡ true) × (rowOf (h .address) ≡ deviceId))
-
-  fields-swapped : (h : Header) → IsCommand u p h → (h .protocol ≡ 0x01 → ⊥) → isSuccess (headerStatus u h (pathIn u p) link) ≡ true → (s : Status) (from : ℕ)
-      → Swapped (changed (fieldAction h s p from) u (h .initiator) (pathIn u p) link)
-  fields-swapped h read other accepted s from =
-      field-changes u h (pathIn u p) p link from Swapped (isSuccess s) (kindIn h) (inl refl)
-      (λ new expected t k. inr (h, read, protocol-other p (u .number) h read other, rw k, on-device u p link h other accepted k)) (λ word t k. (inl refl, inl refl))
-
 pub owner-is-swapped : OwnerIsSwapped ours
-unfolding afterTime
 owner-is-swapped u p end link m r other =
-    go (packet-is u p end link m r (λ o. Swapped u p link (o .answer .unit)) (λ e. inl refl) (λ e f. inl refl) (λ e f why g. inl refl) (λ e f g. inl refl)
-    (λ e f g t. inl refl)
-    (λ e f h g. command-is u h (pathIn u p) p end link m r (λ o. Swapped u p link (o .answer .unit)) (inl refl) (λ a. (λ w. inl refl, λ w. inl refl))
-    (λ b a. (λ w. inl refl, λ w. inl refl))
-    (λ b a. let v = fields-swapped u p link h g b a (dataStatus (drop (headerSize (h .instruction)) p) (wantedCount h) end) (headerSize (h .instruction)) in (λ w. v, λ w. v))))
+    go (unit-is u p end link m r Swapped (λ f v x. x) (inl refl) (λ w t g. inl refl)
+    (λ w there h g q a. (
+      λ k new expected. inr (h, g, protocol-other p (u .number) h g q, rw k, on-device u p link h q a k),
+      λ k word. (inl refl, inl refl),
+    )))
   where
-    go : Swapped u p link (takePacket u p end link m r .answer .unit)
-        → (h : Header) × IsCommand u p h × (h .protocol ≡ 0x03) × (isRmw (kindIn h) ≡ true) × (rowOf (h .address) ≡ deviceId)
+    Swap : Type 0
+    Swap = (h : Header) × IsCommand u p h × (h .protocol ≡ 0x03) × (isRmw (kindIn h) ≡ true) × (rowOf (h .address) ≡ deviceId)
+
+    Swapped : TheUnit → Type 0
+    Swapped v = (v .owner ≡ u .owner) ⊎ Swap
+
+    go : Swapped (takePacket u p end link m r .answer .unit) → Swap
     go (inl same) = absurd (other same)
     go (inr x) = x
 
@@ -180,28 +162,17 @@ others = 0 ∷ 1 ∷ 2 ∷ 3 ∷ 9 ∷ 10 ∷ 12 ∷ 13 ∷ []
 other-row : (row : ℕ) → row < missing → some (eqb row) (4 ∷ ownable) ≡ false → some (eqb row) others ≡ true
 other-row row h e = rw e at (below (λ k. some (eqb k) (4 ∷ ownable) || some (eqb k) others) missing refl row h)
 
-module _ (u : TheUnit) (p : List ℕ) (end : End) (link : ℕ) (m r : List ℕ) where
-  -- of the fields' values the divider alone may differ, and the links are the same
-  abbrev Stay : TheUnit → Type 0
-  Stay v = (withOwnable u v .fields ≡ v .fields) × (v .links ≡ u .links)
-
-  fields-stay : (h : Header) (s : Status) (from : ℕ) → Stay (changed (fieldAction h s p from) u (h .initiator) (readPacket p (u .number) .path) link)
-  fields-stay h s from =
-      field-changes u h (readPacket p (u .number) .path) p link from Stay (isSuccess s) (kindIn h) (refl, refl) (λ new expected t k. (refl, refl))
-      (λ word t k. ((refl, refl), (sym (ap (λ (v : TheUnit). v .fields) (divider-only u word)), refl)))
-
-  packet-stay : Stay (takePacket u p end link m r .answer .unit)
-  packet-stay =
-      packet-is u p end link m r (λ o. Stay (o .answer .unit)) (λ e. (refl, refl)) (λ e f. (refl, refl)) (λ e f why g. (refl, refl)) (λ e f g. (refl, refl))
-      (λ e f g t. (refl, refl))
-      (λ e f h g. command-is u h (readPacket p (u .number) .path) p end link m r (λ o. Stay (o .answer .unit)) (refl, refl)
-      (λ a. (λ w. (refl, refl), λ w. (refl, refl))) (λ b a. (λ w. (refl, refl), λ w. (refl, refl)))
-      (λ b a. let v = fields-stay h (dataStatus (drop (headerSize (h .instruction)) p) (wantedCount h) end) (headerSize (h .instruction)) in (λ w. v, λ w. v)))
+-- of the fields' values the divider alone may differ
+fields-stay : (u : TheUnit) (p : List ℕ) (end : End) (link : ℕ) (m r : List ℕ)
+    → withOwnable u (takePacket u p end link m r .answer .unit) .fields ≡ takePacket u p end link m r .answer .unit .fields
+fields-stay u p end link m r =
+    unit-is u p end link m r (λ v. withOwnable u v .fields ≡ v .fields) (λ f v x. x) refl (λ w t g. refl)
+    (λ w there h g q a. (λ k new expected. refl, λ k word. (refl, sym (ap (λ (v : TheUnit). v .fields) (divider-only u word)))))
 
 pub others-stay : OthersStay ours
 unfolding valuesOf
 others-stay u p end link m r row shown small other =
     let v = takePacket u p end link m r .answer .unit in
-    let s = sym (packet-stay u p end link m r .0) in
+    let s = sym (fields-stay u p end link m r) in
     one-of (λ k. shownBy v shown k ≡ shownBy u shown k) others row (other-row row small other)
     (rw s, (rw s, (rw s, (rw s, (rw s, (rw s, (rw s, (rw s, tt))))))))

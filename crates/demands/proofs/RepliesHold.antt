@@ -13,14 +13,11 @@ use Rattle.octets.specs.Crc.{crc, withCrc}
 use Rattle.octets.proofs.CrcLaws.{crc-none, crc-checked}
 use Rattle.packets.specs.Instruction.{isWrite, headerSize}
 use Rattle.packets.specs.Path.{pathBytes}
-use Rattle.packets.specs.Reading.{numberOf}
 use Rattle.packets.specs.Reply.{replyStart, replyHead, replyWith, carried, replyOf}
 use Rattle.packets.specs.declared.instruction.Kind.{Kind}
 use Rattle.packets.specs.declared.instruction.Kind.the-variants.{Unused, Read, ReadModifyWrite, Write}
 use Rattle.packets.specs.declared.header.Header.{Header}
 use Rattle.packets.specs.declared.reading.End.{End}
-use Rattle.packets.specs.declared.reading.Refusal.{Refusal}
-use Rattle.packets.specs.declared.reading.Refusal.the-variants.{Incomplete, UnknownProtocol, ExtendedProtocol, Reply, HeaderCrc}
 use Rattle.unit.specs.Fate.{byteOf, isSuccess, fateNumber}
 use Rattle.unit.specs.Usable.{usable}
 use Rattle.unit.specs.Decide.{kindIn, rmwCount, wantedCount, dataStatus}
@@ -30,6 +27,7 @@ use Rattle.unit.specs.Calls.{Outcome, takeCommand}
 use Rattle.unit.specs.declared.fate.Status.{Status}
 use Rattle.unit.specs.declared.fate.Fate.the-variants.{Replied}
 use Rattle.unit.specs.declared.unit.Unit.{Unit as TheUnit}
+use Rattle.unit.proofs.FateLaws.{unread-number}
 use Rattle.unit.proofs.PlanLaws.{replied-plan, carried-plan}
 use Rattle.unit.proofs.ReplyLaws.{reply-written}
 use Rattle.unit.proofs.CommandLaws.{packet-is}
@@ -117,12 +115,5 @@ pub replies : Replies ours
 replies u p end link m r s bytes =
     packet-is u p end link m r (Says u p end link m r s bytes)
     (λ e n. absurd (omega (arith, ap fateNumber n))) (λ e f n. absurd (omega (arith, ap fateNumber n)))
-    (λ e f why g n. absurd (unread why (ap fateNumber n))) (λ e f g n. absurd (omega (arith, ap fateNumber n)))
+    (λ e f why g n. absurd (omega (arith, unread-number why .1, ap fateNumber n))) (λ e f g n. absurd (omega (arith, ap fateNumber n)))
     (λ e f g t n. absurd (omega (arith, ap fateNumber n))) (λ e f h g. command-says u p end link m r s bytes h g e)
-  where
-    unread : (why : Refusal) → numberOf why ≡ 20 → ⊥
-    unread Incomplete n = omega (arith, n)
-    unread UnknownProtocol n = omega (arith, n)
-    unread ExtendedProtocol n = omega (arith, n)
-    unread Reply n = omega (arith, n)
-    unread HeaderCrc n = omega (arith, n)

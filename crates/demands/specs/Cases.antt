@@ -13,9 +13,8 @@ use Rattle.packets.specs.declared.reading.End.{End}
 use Rattle.unit.specs.Fate.{fateNumber}
 use Rattle.unit.specs.Usable.{usable, usableUnit}
 use Rattle.unit.specs.Act.{combineByte}
-use Rattle.unit.specs.Calls.{takePacket, takeTicks}
+use Rattle.unit.specs.Calls.{isLink, takePacket, takeTicks}
 use Rattle.unit.specs.declared.unit.Unit.{Unit as TheUnit}
-use Rattle.demands.specs.Terminal.{isLink}
 
 -- An instruction is a command of a kind, incrementing and with a reply.
 abbrev pub Instructs : ℕ → Kind → Type 0

@@ -15,9 +15,10 @@ use Rattle.unit.specs.Windows.{holds, hasRight, used}
 use Rattle.unit.specs.Fields.{rowOf}
 use Rattle.unit.specs.Usable.{usable}
 use Rattle.unit.specs.Decide.{kindIn, openingStatus, spanSize, fieldCount, namesFields}
+use Rattle.unit.specs.Calls.{isLink}
 use Rattle.unit.specs.declared.fate.Told.the-variants.{Byte}
 use Rattle.unit.specs.declared.unit.Unit.{Unit as TheUnit}
-use Rattle.demands.specs.Terminal.{Terminal, isLink, IsCommand}
+use Rattle.demands.specs.Terminal.{Terminal, IsCommand}
 use Rattle.demands.specs.Refusals.{lengthDue}
 
 -- ---- fields

@@ -28,7 +28,7 @@ use Rattle.unit.specs.Usable.{usable, usableUnit}
 use Rattle.unit.specs.Decide.{kindIn, rmwCount, headerStatus, wantedCount, dataStatus}
 use Rattle.unit.specs.Plan.{replyCount}
 use Rattle.unit.specs.Act.{combined, lastOf, withCounters, withClock}
-use Rattle.unit.specs.Calls.{Outcome}
+use Rattle.unit.specs.Calls.{Outcome, isLink}
 use Rattle.unit.specs.declared.fate.Status.{Status}
 use Rattle.unit.specs.declared.fate.Fate.{Fate}
 use Rattle.unit.specs.declared.fate.Fate.the-variants.{TimeChanged, Unusable, NoSuchLink, NoRoom, Unread, TimeThrownAway, NotObeyed, Obeyed, TimeTaken, Replied}
@@ -37,7 +37,7 @@ use Rattle.unit.specs.declared.fate.Told.the-variants.{Nothing, Byte}
 use Rattle.unit.specs.declared.clock.Clock.{Clock}
 use Rattle.unit.specs.declared.calls.Answer.{Answer}
 use Rattle.unit.specs.declared.unit.Unit.{Unit as TheUnit}
-use Rattle.demands.specs.Terminal.{Terminal, isLink, ReadAs, IsCommand, pathIn, Every}
+use Rattle.demands.specs.Terminal.{Terminal, ReadAs, IsCommand, pathIn, Every}
 
 -- ---- what a row says of the unit
 

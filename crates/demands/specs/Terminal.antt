@@ -1,9 +1,7 @@
 -- What the demands speak of: a terminal's three calls, and histories of them (document 01, 'The terminal and its neighbours').
 use mathlib.Core.Path.{_≡_}
-use mathlib.Core.Bool.{Bool, _&&_}
 use mathlib.Core.List.{List, [], _∷_}
 use Prim.Native.Nat.{ℕ}
-use lib.Dec.{leb}
 use Rattle.packets.specs.Reading.{readPacket}
 use Rattle.packets.specs.declared.header.Header.{Header}
 use Rattle.packets.specs.declared.path.Path.{Path}
@@ -28,10 +26,6 @@ abbrev pub ours : Terminal
 ours = record { packet = takePacket; timeCode = takeTimeCode; ticks = takeTicks }
 
 -- ---- a packet to a unit
-
--- It came on one of the unit's links.
-abbrev pub isLink : TheUnit → ℕ → Bool
-isLink u link = leb 1 link && leb link (u .links)
 
 -- What it is read as; so as the command h, RMAP or plug-and-play; and its reply path.
 abbrev pub ReadAs : TheUnit → List ℕ → Reading → Type 0

@@ -1,6 +1,6 @@
 -- Laws of reading: what a packet is read as, case by case.
 use mathlib.Core.Path.{_≡_, refl, sym, _∙_, ap}
-use mathlib.Core.Bool.{Bool, true, false, cond, _&&_, _||_, false≢true}
+use mathlib.Core.Bool.{Bool, true, false, cond, _&&_, _||_}
 use mathlib.Core.Logic.{_⊎_, inl, inr}
 use mathlib.Core.List.{List}
 use Prim.Native.Nat.{ℕ, _+_, _^_, _<_, _≤_}
@@ -100,11 +100,15 @@ packet-protocol p n h = rw (le-ltb _ _ h)
 
 -- ---- back from a packet that was read as a command: what the checks have shown
 
-abbrev is-command : Packet → ℕ
-is-command p = elim (p .reading) [ Refused why ↦ 0 | Time ↦ 0 | Command h ↦ 1 ]
+abbrev rank : Reading → ℕ
+rank r = elim r [ Refused why ↦ 0 | Time ↦ 1 | Command h ↦ 2 ]
 
-no-command : {h : Header} {k : Path} (p : Packet) → is-command p ≡ 0 → p ≡ record { reading = Command h; path = k } → ⊥
-no-command p z e = omega (arith, z, ap is-command e)
+-- what is read as something else is no command
+pub not-command : {h : Header} (r : Reading) → rank r < 2 → r ≡ Command h → ⊥
+not-command r l e = omega (arith, l, ap rank e)
+
+no-command : {h : Header} {k : Path} (p : Packet) → rank (p .reading) < 2 → p ≡ record { reading = Command h; path = k } → ⊥
+no-command p l e = not-command (p .reading) l (ap (λ (q : Packet). q .reading) e)
 
 one-of-two : (q : ℕ) → (eqb q 0x01 || eqb q 0x03) ≡ true → (q ≡ 0x01) ⊎ (q ≡ 0x03)
 one-of-two q e = go (eqb q 0x01) refl
@@ -118,20 +122,20 @@ module _ {h : Header} {k : Path} where
   passed : (a b c d : Bool) (r s t u : Refusal) (p : Packet)
       → cond a (refused r) (cond b (refused s) (cond c (refused t) (cond d p (refused u)))) ≡ record { reading = Command h; path = k }
       → (a ≡ false) × (b ≡ false) × (c ≡ false) × (p ≡ record { reading = Command h; path = k })
-  passed true b c d r s t u p e = absurd (no-command (refused r) refl e)
-  passed false true c d r s t u p e = absurd (no-command (refused s) refl e)
-  passed false false true d r s t u p e = absurd (no-command (refused t) refl e)
+  passed true b c d r s t u p e = absurd (no-command (refused r) (omega arith) e)
+  passed false true c d r s t u p e = absurd (no-command (refused s) (omega arith) e)
+  passed false false true d r s t u p e = absurd (no-command (refused t) (omega arith) e)
   passed false false false true r s t u p e = (refl, refl, refl, e)
-  passed false false false false r s t u p e = absurd (no-command (refused u) refl e)
+  passed false false false false r s t u p e = absurd (no-command (refused u) (omega arith) e)
 
   protocol-passed : (a b c d : Bool) (r s t : Refusal) (p : Packet)
       → cond a (refused r) (cond b p (cond c (refused s) (cond d timePacket (refused t)))) ≡ record { reading = Command h; path = k }
       → (b ≡ true) × (p ≡ record { reading = Command h; path = k })
-  protocol-passed true b c d r s t p e = absurd (no-command (refused r) refl e)
+  protocol-passed true b c d r s t p e = absurd (no-command (refused r) (omega arith) e)
   protocol-passed false true c d r s t p e = (refl, e)
-  protocol-passed false false true d r s t p e = absurd (no-command (refused s) refl e)
-  protocol-passed false false false true r s t p e = absurd (no-command timePacket refl e)
-  protocol-passed false false false false r s t p e = absurd (no-command (refused t) refl e)
+  protocol-passed false false true d r s t p e = absurd (no-command (refused s) (omega arith) e)
+  protocol-passed false false false true r s t p e = absurd (no-command timePacket (omega arith) e)
+  protocol-passed false false false false r s t p e = absurd (no-command (refused t) (omega arith) e)
 
   -- it has protocol 01 or 03, and was read by the checks above
   pub packet-command : (p : List ℕ) (n : ℕ) → readPacket p n ≡ record { reading = Command h; path = k }
@@ -194,10 +198,7 @@ module _ (p : List ℕ) (n : ℕ) (h : Header) (is : readPacket p n .reading ≡
 
 -- ---- a packet with protocol 01 is no time packet
 
-abbrev is-time : Reading → Bool
-is-time r = elim r [ Refused why ↦ false | Time ↦ true | Command h ↦ false ]
-
-command-no-time : (p : List ℕ) → is-time (readCommand p .reading) ≡ false
+command-no-time : (p : List ℕ) → rank (readCommand p .reading) ≡ 1 → ⊥
 unfolding readCommand
 command-no-time p =
     go (ltb (length p) 3) (eqb (typeOf i) 0) (ltb (length p) (headerSize i)) (eqb (crc (take (headerSize i) p)) 0)
@@ -205,20 +206,20 @@ command-no-time p =
     i : Instruction
     i = instructionAt p
 
-    go : (a b c d : Bool) → is-time (cond a (refused Incomplete) (cond b (refused Reply) (cond c (refused Incomplete) (cond d (command p) (refused HeaderCrc)))) .reading) ≡ false
-    go true b c d = refl
-    go false true c d = refl
-    go false false true d = refl
-    go false false false true = refl
-    go false false false false = refl
+    go : (a b c d : Bool) → rank (cond a (refused Incomplete) (cond b (refused Reply) (cond c (refused Incomplete) (cond d (command p) (refused HeaderCrc)))) .reading) ≡ 1 → ⊥
+    go true b c d e = omega (arith, e)
+    go false true c d e = omega (arith, e)
+    go false false true d e = omega (arith, e)
+    go false false false true e = omega (arith, e)
+    go false false false false e = omega (arith, e)
 
 pub no-time : (p : List ℕ) (n : ℕ) → getD p 1 0 ≡ 0x01 → readPacket p n .reading ≡ Time → ⊥
 unfolding readPacket readProtocol
 no-time p n rmap e =
     let r : readPacket p n ≡ cond (ltb (length p) 2) (refused Incomplete) (readCommand p) =
     ap (λ (q : ℕ). cond (ltb (length p) 2) (refused Incomplete) (readProtocol q p n)) rmap in
-    go (ltb (length p) 2) (sym (ap (λ (k : Packet). is-time (k .reading)) r) ∙ ap is-time e)
+    go (ltb (length p) 2) (sym (ap (λ (k : Packet). rank (k .reading)) r) ∙ ap rank e)
   where
-    go : (a : Bool) → is-time (cond a (refused Incomplete) (readCommand p) .reading) ≡ true → ⊥
-    go true t = false≢true t
-    go false t = false≢true (sym (command-no-time p) ∙ t)
+    go : (a : Bool) → rank (cond a (refused Incomplete) (readCommand p) .reading) ≡ 1 → ⊥
+    go true t = omega (arith, t)
+    go false t = command-no-time p t

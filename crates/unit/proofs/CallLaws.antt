@@ -6,13 +6,11 @@ use Prim.Native.Nat.{ℕ, _≤_}
 use native.Mathlib.Omega.{arith}
 use lib.ListN.{length, drop}
 use Rattle.packets.specs.Instruction.{headerSize}
-use Rattle.packets.specs.Reading.{numberOf, readPacket}
+use Rattle.packets.specs.Reading.{readPacket}
 use Rattle.packets.specs.Reply.{replied}
 use Rattle.packets.specs.declared.header.Header.{Header}
 use Rattle.packets.specs.declared.path.Path.{Path}
 use Rattle.packets.specs.declared.reading.End.{End}
-use Rattle.packets.specs.declared.reading.Refusal.{Refusal}
-use Rattle.packets.specs.declared.reading.Refusal.the-variants.{Incomplete, UnknownProtocol, ExtendedProtocol, Reply, HeaderCrc}
 use Rattle.packets.proofs.ReadingLaws.{header-whole}
 use Rattle.packets.proofs.ReplyLaws.{length-replied}
 use Rattle.unit.specs.Fate.{isSuccess, fateNumber}
@@ -22,17 +20,11 @@ use Rattle.unit.specs.Calls.{Outcome, withoutReply, leaving, takePacket}
 use Rattle.unit.specs.declared.fate.Status.{Status}
 use Rattle.unit.specs.declared.fate.Fate.the-variants.{NotObeyed, Obeyed, Replied}
 use Rattle.unit.specs.declared.unit.Unit.{Unit as TheUnit}
+use Rattle.unit.proofs.FateLaws.{unread-number}
 use Rattle.unit.proofs.MemoryLaws.{memory-length}
 use Rattle.unit.proofs.CommandLaws.{packets-are, packet-is, commands-are, command-is}
 
--- the other fates have numbers above 3
-unread-high : (why : Refusal) → numberOf why ≤ 3 → ⊥
-unread-high Incomplete l = omega arith
-unread-high UnknownProtocol l = omega arith
-unread-high ExtendedProtocol l = omega arith
-unread-high Reply l = omega arith
-unread-high HeaderCrc l = omega arith
-
+-- a command without a reply has a number above 3
 silent-high : (s : Status) → fateNumber (unansweredFate s) ≤ 3 → ⊥
 silent-high s = go (isSuccess s)
   where
@@ -51,7 +43,7 @@ module _ (u : TheUnit) (p : List ℕ) (end : End) (link : ℕ) where
 
     pub low-leaves : Leaves (takePacket u p end link m r)
     low-leaves =
-        packet-is u p end link m r Leaves (λ e l. refl) (λ e f l. refl) (λ e f why g l. absurd (unread-high why l)) (λ e f g l. absurd (omega (arith, l)))
+        packet-is u p end link m r Leaves (λ e l. refl) (λ e f l. refl) (λ e f why g l. absurd (omega (arith, unread-number why .0, l))) (λ e f g l. absurd (omega (arith, l)))
         (λ e f g t l. absurd (omega (arith, l)))
         (λ e f h g. command-is u h path p end link m r Leaves (λ l. refl) (λ a. high (headerStatus u h path link))
         (λ q a. high (dataStatus (drop (headerSize (h .instruction)) p) (wantedCount h) end))

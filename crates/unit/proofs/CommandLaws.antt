@@ -1,14 +1,14 @@
 -- The ways that a packet and a command can go: what holds of each of them holds of every one. No memory command changes the unit, no field
 -- command changes memory.
 use mathlib.Core.Path.{_≡_, refl}
-use mathlib.Core.Bool.{Bool, true, false, cond, not, _&&_}
+use mathlib.Core.Bool.{Bool, true, false, cond, not}
 use mathlib.Core.List.{List, []}
 use Prim.Native.Nat.{ℕ, _+_, _-_}
-use lib.Dec.{eqb, leb}
+use lib.Dec.{eqb}
 use lib.ListN.{length, drop}
 use Rattle.octets.specs.Places.{part}
 use Rattle.octets.specs.Numbers.{number}
-use Rattle.packets.specs.Instruction.{isIncrementing, isVerified, wantsReply, headerSize}
+use Rattle.packets.specs.Instruction.{wantsReply, headerSize}
 use Rattle.packets.specs.Reading.{readPacket}
 use Rattle.packets.specs.Reply.{replyLength, replied}
 use Rattle.packets.specs.Time.{readTime}
@@ -25,31 +25,28 @@ use Rattle.packets.specs.declared.time.TimeReading.{TimeReading}
 use Rattle.packets.specs.declared.time.TimeReading.the-variants.{ThrownAway, Taken}
 use Rattle.unit.specs.Fate.{byteOf, isSuccess}
 use Rattle.unit.specs.Counters.{countedFor}
-use Rattle.unit.specs.Clock.{timeCodeWritten}
+use Rattle.unit.specs.Clock.{afterTime, timeCodeWritten}
 use Rattle.unit.specs.Owner.{swapped}
 use Rattle.unit.specs.Fields.{rowOf, timeCodeCounter, divider, dividerWritten}
 use Rattle.unit.specs.Usable.{usable}
 use Rattle.unit.specs.Decide.{kindIn, headerStatus, wantedCount, dataStatus}
 use Rattle.unit.specs.Plan.{actionOf, memoryAction, fieldActionOf, fieldAction, unansweredFate, replyCount, plannedFor}
 use Rattle.unit.specs.Act.{stored, dataFor, repliedTo, withOwner, withFields, withClock, fieldWritten, changed, countedUnit}
-use Rattle.unit.specs.Calls.{Outcome, withoutReply, leaving, acted, takeTime, takeCommand, takeReading, takePacket}
+use Rattle.unit.specs.Calls.{Outcome, withoutReply, leaving, acted, takeTime, takeCommand, takeReading, isLink, takePacket}
 use Rattle.unit.specs.declared.fate.Status.{Status}
 use Rattle.unit.specs.declared.fate.Fate.{Fate}
-use Rattle.unit.specs.declared.fate.Fate.the-variants.{Unusable, NoSuchLink, NoRoom, Unread, NotObeyed, Obeyed, Replied}
+use Rattle.unit.specs.declared.fate.Fate.the-variants.{Unusable, NoSuchLink, NoRoom, Unread, TimeThrownAway, NotObeyed, Obeyed, TimeTaken, Replied}
 use Rattle.unit.specs.declared.calls.Answer.{Answer}
 use Rattle.unit.specs.declared.decide.Action.{Action}
-use Rattle.unit.specs.declared.decide.Action.the-variants.{Nothing, ReadMemory, RepeatByte, Store, StoreLast, Combine}
+use Rattle.unit.specs.declared.decide.Action.the-variants.{Nothing}
 use Rattle.unit.specs.declared.decide.Plan.{Plan}
 use Rattle.unit.specs.declared.unit.Unit.{Unit as TheUnit}
-use Rattle.unit.proofs.PlanLaws.{planned-is, decided-is}
+use Rattle.unit.proofs.PlanLaws.{action-is, planned-is, decided-is}
 use Rattle.unit.proofs.MemoryLaws.{fields-store-none}
 
 -- ---- a packet: 1, 2, refused as it was read, a time packet thrown away or taken, or a command
 
 module _ (u : TheUnit) (p : List ℕ) (end : End) (link : ℕ) where
-  abbrev isThere : Bool
-  isThere = leb 1 link && leb link (u .links)
-
   abbrev path : Path
   path = readPacket p (u .number) .path
 
@@ -74,19 +71,19 @@ module _ (u : TheUnit) (p : List ℕ) (end : End) (link : ℕ) where
     readings-are (Command h) refused time command = command h refl
 
     pub packets-are : (usable u (length m) ≡ false → Both (withoutReply Unusable u))
-        → (usable u (length m) ≡ true → isThere ≡ false → Both (withoutReply NoSuchLink u))
-        → (usable u (length m) ≡ true → isThere ≡ true → (why : Refusal) → read ≡ Refused why → Both (withoutReply (Unread why) (countedUnit (Unread why) u)))
-        → (usable u (length m) ≡ true → isThere ≡ true → read ≡ Time → readTime p end (u .logical) (u .number) ≡ ThrownAway
+        → (usable u (length m) ≡ true → isLink u link ≡ false → Both (withoutReply NoSuchLink u))
+        → (usable u (length m) ≡ true → isLink u link ≡ true → (why : Refusal) → read ≡ Refused why → Both (withoutReply (Unread why) (countedUnit (Unread why) u)))
+        → (usable u (length m) ≡ true → isLink u link ≡ true → read ≡ Time → readTime p end (u .logical) (u .number) ≡ ThrownAway
         → Both (takeTime ThrownAway u))
-        → (usable u (length m) ≡ true → isThere ≡ true → read ≡ Time → (t : TheTime) → readTime p end (u .logical) (u .number) ≡ Taken t
+        → (usable u (length m) ≡ true → isLink u link ≡ true → read ≡ Time → (t : TheTime) → readTime p end (u .logical) (u .number) ≡ Taken t
         → Both (takeTime (Taken t) u))
-        → (usable u (length m) ≡ true → isThere ≡ true → (h : Header) → read ≡ Command h
+        → (usable u (length m) ≡ true → isLink u link ≡ true → (h : Header) → read ≡ Command h
         → R (takeCommand u h path p end link m r) (takeCommand u h path p end link n r))
         → R (takePacket u p end link m r) (takePacket u p end link n r)
     unfolding takePacket
-    packets-are one two refused away taken command = rw (← long) (go (usable u (length m)) isThere refl refl)
+    packets-are one two refused away taken command = rw (← long) (go (usable u (length m)) (isLink u link) refl refl)
       where
-        go : (t s : Bool) → usable u (length m) ≡ t → isThere ≡ s
+        go : (t s : Bool) → usable u (length m) ≡ t → isLink u link ≡ s
             → R (cond (not t) (leaving (withoutReply Unusable u) m r) (cond (not s) (leaving (withoutReply NoSuchLink u) m r) (takeReading read u path p end link m r)))
             (cond (not t) (leaving (withoutReply Unusable u) n r) (cond (not s) (leaving (withoutReply NoSuchLink u) n r) (takeReading read u path p end link n r)))
         go false s e f = one e
@@ -97,50 +94,23 @@ module _ (u : TheUnit) (p : List ℕ) (end : End) (link : ℕ) where
   -- and on one memory
   module _ (m r : List ℕ) (Q : Outcome → Type 0) where
     pub packet-is : (usable u (length m) ≡ false → Q (leaving (withoutReply Unusable u) m r))
-        → (usable u (length m) ≡ true → isThere ≡ false → Q (leaving (withoutReply NoSuchLink u) m r))
-        → (usable u (length m) ≡ true → isThere ≡ true → (why : Refusal) → read ≡ Refused why
+        → (usable u (length m) ≡ true → isLink u link ≡ false → Q (leaving (withoutReply NoSuchLink u) m r))
+        → (usable u (length m) ≡ true → isLink u link ≡ true → (why : Refusal) → read ≡ Refused why
         → Q (leaving (withoutReply (Unread why) (countedUnit (Unread why) u)) m r))
-        → (usable u (length m) ≡ true → isThere ≡ true → read ≡ Time → Q (leaving (takeTime ThrownAway u) m r))
-        → (usable u (length m) ≡ true → isThere ≡ true → read ≡ Time → (t : TheTime) → Q (leaving (takeTime (Taken t) u) m r))
-        → (usable u (length m) ≡ true → isThere ≡ true → (h : Header) → read ≡ Command h → Q (takeCommand u h path p end link m r))
+        → (usable u (length m) ≡ true → isLink u link ≡ true → read ≡ Time → Q (leaving (takeTime ThrownAway u) m r))
+        → (usable u (length m) ≡ true → isLink u link ≡ true → read ≡ Time → (t : TheTime) → Q (leaving (takeTime (Taken t) u) m r))
+        → (usable u (length m) ≡ true → isLink u link ≡ true → (h : Header) → read ≡ Command h → Q (takeCommand u h path p end link m r))
         → Q (takePacket u p end link m r)
     packet-is one two refused away taken command =
         packets-are m m r refl (λ o o′. Q o) one two refused (λ e f g w. away e f g) (λ e f g t w. taken e f g t) command
 
 -- ---- a memory action changes nothing of the unit
 
-read-unit : (t s : Bool) (at count : ℕ) (u : TheUnit) (initiator : ℕ) (path : Path) (link : ℕ)
-    → changed (cond t (cond s (ReadMemory at count) (RepeatByte at count)) Nothing) u initiator path link ≡ u
-unfolding changed
-read-unit true true at count u initiator path link = refl
-read-unit true false at count u initiator path link = refl
-read-unit false s at count u initiator path link = refl
-
-rmw-unit : (t : Bool) (at from count : ℕ) (u : TheUnit) (initiator : ℕ) (path : Path) (link : ℕ)
-    → changed (cond t (Combine at from count) Nothing) u initiator path link ≡ u
-unfolding changed
-rmw-unit true at from count u initiator path link = refl
-rmw-unit false at from count u initiator path link = refl
-
-write-unit : (t s : Bool) (at from count : ℕ) (u : TheUnit) (initiator : ℕ) (path : Path) (link : ℕ)
-    → changed (cond t Nothing (cond s (Store at from count) (StoreLast at from count))) u initiator path link ≡ u
-unfolding changed
-write-unit true s at from count u initiator path link = refl
-write-unit false true at from count u initiator path link = refl
-write-unit false false at from count u initiator path link = refl
-
-nothing-unit : (u : TheUnit) (initiator : ℕ) (path : Path) (link : ℕ) → changed Nothing u initiator path link ≡ u
-unfolding changed
-nothing-unit u initiator path link = refl
-
 memory-unit : (kind : Kind) (h : Header) (s : Status) (from k : ℕ) (u : TheUnit) (path : Path) (link : ℕ)
     → changed (actionOf kind h s from k) u (h .initiator) path link ≡ u
-memory-unit Unused h s from k u path link = nothing-unit u (h .initiator) path link
-memory-unit Read h s from k u path link =
-    read-unit (isSuccess s) (isIncrementing (h .instruction)) (h .address) (h .length) u (h .initiator) path link
-memory-unit ReadModifyWrite h s from k u path link = rmw-unit (isSuccess s) (h .address) from _ u (h .initiator) path link
-memory-unit Write h s from k u path link =
-    write-unit (isVerified (h .instruction) && not (isSuccess s)) (isIncrementing (h .instruction)) (h .address) from _ u (h .initiator) path link
+unfolding changed
+memory-unit kind h s from k u path link =
+    action-is (λ a. changed a u (h .initiator) path link ≡ u) kind h s from k refl (λ a b c. refl) (λ a b c. refl) (λ a b. refl) (λ a c. refl) (λ a c. refl)
 
 -- ---- a field action: nothing, a swap, or a write to the Time-Code counter or to the divider
 
@@ -253,3 +223,34 @@ command-fate u h path p end link m r P three twenty seventeen eighteen =
     silent : (s : Status) (t : Bool) → isSuccess s ≡ t → P (cond t Obeyed (NotObeyed s))
     silent s true e = eighteen
     silent s false e = seventeen s e
+
+-- ---- the unit after a packet: as it was, with the time of a time packet, or after a swap or a write to a field; and counted
+
+module _ (u : TheUnit) (p : List ℕ) (end : End) (link : ℕ) (m r : List ℕ) (Q : TheUnit → Type 0) (counted : (f : Fate) (v : TheUnit) → Q v → Q (countedUnit f v)) where
+  pub unit-is : Q u
+      → (usable u (length m) ≡ true → (t : TheTime) → readTime p end (u .logical) (u .number) ≡ Taken t → Q (withClock u (afterTime (u .clock) t)))
+      → (usable u (length m) ≡ true → isLink u link ≡ true → (h : Header) → readPacket p (u .number) .reading ≡ Command h → (h .protocol ≡ 0x01 → ⊥)
+      → isSuccess (headerStatus u h (readPacket p (u .number) .path) link) ≡ true
+      → (kindIn h ≡ ReadModifyWrite → (new expected : ℕ) → Q (withOwner u (swapped (u .owner) new expected (h .initiator) (readPacket p (u .number) .path) link)))
+      × (kindIn h ≡ Write → (word : ℕ) → Q (withClock u (timeCodeWritten (u .clock) word)) × Q (withFields u (dividerWritten (u .fields) word))))
+      → Q (takePacket u p end link m r .answer .unit)
+  unit-is same time fields =
+      packets-are u p end link m m r refl (λ o o′. Q (o .answer .unit)) (λ e. same) (λ e f. same) (λ e f why g. counted (Unread why) u same)
+      (λ e f g w. counted TimeThrownAway u same) (λ e f g t w. counted TimeTaken (withClock u (afterTime (u .clock) t)) (time e t w))
+      (λ e f h g. command-is u h path′ p end link m r (λ o. Q (o .answer .unit)) same (λ a. both (headerStatus u h path′ link) u same) (λ q a. both (second h) u same)
+      (λ q a. both (second h) (changed (fieldAction h (second h) p (headerSize (h .instruction))) u (h .initiator) path′ link) (after e f h g q a)))
+    where
+      path′ : Path
+      path′ = readPacket p (u .number) .path
+
+      second : Header → Status
+      second h = dataStatus (drop (headerSize (h .instruction)) p) (wantedCount h) end
+
+      both : {A B : Type 0} (s : Status) (v : TheUnit) → Q v → (A → Q (countedUnit (Replied s) v)) × (B → Q (countedUnit (unansweredFate s) v))
+      both s v x = (λ w. counted (Replied s) v x, λ w. counted (unansweredFate s) v x)
+
+      after : usable u (length m) ≡ true → isLink u link ≡ true → (h : Header) → readPacket p (u .number) .reading ≡ Command h → (h .protocol ≡ 0x01 → ⊥)
+          → isSuccess (headerStatus u h path′ link) ≡ true → Q (changed (fieldAction h (second h) p (headerSize (h .instruction))) u (h .initiator) path′ link)
+      after e f h g q a =
+          field-changes u h path′ p link (headerSize (h .instruction)) Q (isSuccess (second h)) (kindIn h) same
+          (λ new expected t k. fields e f h g q a .0 k new expected) (λ word t k. fields e f h g q a .1 k word)

@@ -1,10 +1,10 @@
 -- A counter is never looked at, and counting goes in any order.
 use mathlib.Core.Path.{_≡_, refl, sym, _∙_, ap}
-use mathlib.Core.Bool.{Bool, true, false, cond, not, _&&_}
+use mathlib.Core.Bool.{Bool, true, false, cond, not}
 use mathlib.Core.List.{List}
 use Prim.Native.Nat.{ℕ, _+_, _%_, _^_}
 use native.Mathlib.Decide.{ℕ-discrete}
-use lib.Dec.{eqb, leb, ltb}
+use lib.Dec.{eqb, ltb}
 use lib.ListN.{length, getD, set}
 use lib.Seq.{getD-set-other, set-comm}
 use Rattle.packets.specs.Reading.{readPacket}
@@ -25,7 +25,7 @@ use Rattle.unit.specs.Usable.{usable, usableUnit}
 use Rattle.unit.specs.Decide.{headerStatus}
 use Rattle.unit.specs.Plan.{decided}
 use Rattle.unit.specs.Act.{stored, dataFor, repliedTo, fieldWritten, changed, withClock, withFields, withCounters, countedUnit}
-use Rattle.unit.specs.Calls.{Outcome, withoutReply, leaving, takeTime, takeCommand, takeReading, takePacket}
+use Rattle.unit.specs.Calls.{Outcome, withoutReply, leaving, takeTime, takeCommand, takeReading, isLink, takePacket}
 use Rattle.unit.specs.declared.fate.Fate.{Fate}
 use Rattle.unit.specs.declared.fate.Fate.the-variants.{Unusable, NoSuchLink}
 use Rattle.unit.specs.declared.decide.Action.{Action}
@@ -108,7 +108,7 @@ module _ (u : TheUnit) (c : List ℕ) where
     pub counters-aside : takePacket (withCounters u c) p end link m r ≡ recounted c (takePacket u p end link m r)
     unfolding takePacket usable usableUnit countedFor
     counters-aside =
-        go (usable u (length m)) (leb 1 link && leb link (u .links)) _ _ (reading-aside (readPacket p (u .number) .reading) (readPacket p (u .number) .path))
+        go (usable u (length m)) (isLink u link) _ _ (reading-aside (readPacket p (u .number) .reading) (readPacket p (u .number) .path))
       where
         go : (t s : Bool) (a b : Outcome) → a ≡ recounted c b
             → cond (not t) (leaving (withoutReply Unusable (withCounters u c)) m r) (cond (not s) (leaving (withoutReply NoSuchLink (withCounters u c)) m r) a)

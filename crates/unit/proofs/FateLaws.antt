@@ -11,21 +11,21 @@ use Rattle.unit.specs.declared.fate.Status.{Status}
 use Rattle.unit.specs.declared.fate.Fate.{Fate}
 use Rattle.unit.specs.declared.fate.Fate.the-variants.{TimeChanged, Unusable, NoSuchLink, NoRoom, Unread, TimeThrownAway, NotObeyed, Obeyed, TimeTaken, Replied}
 
--- ---- no fate has a number above 20
+-- ---- a refusal has a number from 11 to 15, and no fate one above 20
 
-number-most : (why : Refusal) → numberOf why ≤ 20
-number-most Incomplete = omega arith
-number-most UnknownProtocol = omega arith
-number-most ExtendedProtocol = omega arith
-number-most Reply = omega arith
-number-most HeaderCrc = omega arith
+pub unread-number : (why : Refusal) → (11 ≤ numberOf why) × (numberOf why ≤ 15)
+unread-number Incomplete = (omega arith, omega arith)
+unread-number UnknownProtocol = (omega arith, omega arith)
+unread-number ExtendedProtocol = (omega arith, omega arith)
+unread-number Reply = (omega arith, omega arith)
+unread-number HeaderCrc = (omega arith, omega arith)
 
 pub fate-most : (fate : Fate) → fateNumber fate ≤ 20
 fate-most TimeChanged = omega arith
 fate-most Unusable = omega arith
 fate-most NoSuchLink = omega arith
 fate-most NoRoom = omega arith
-fate-most (Unread why) = number-most why
+fate-most (Unread why) = omega (arith, unread-number why .1)
 fate-most TimeThrownAway = omega arith
 fate-most (NotObeyed s) = omega arith
 fate-most Obeyed = omega arith

@@ -8,7 +8,7 @@ use borrow.Author.Tests.{leb-true, ltb-false, eqb-true, not-true}
 use lib.Dec.{eqb, leb}
 use lib.ListN.{length, drop, length-drop}
 use Rattle.octets.proofs.PlaceLaws.{first-true, second-true}
-use Rattle.packets.specs.Instruction.{isIncrementing, isVerified, headerSize}
+use Rattle.packets.specs.Instruction.{isIncrementing, headerSize}
 use Rattle.packets.specs.declared.instruction.Kind.{Kind}
 use Rattle.packets.specs.declared.instruction.Kind.the-variants.{Unused, Read, ReadModifyWrite, Write}
 use Rattle.packets.specs.declared.header.Header.{Header}
@@ -26,10 +26,10 @@ use Rattle.unit.specs.declared.fate.Status.{Status}
 use Rattle.unit.specs.declared.windows.Window.{Window}
 use Rattle.unit.specs.declared.windows.Windows.{Windows}
 use Rattle.unit.specs.declared.windows.Question.the-variants.{EndsPast, Allows}
-use Rattle.unit.specs.declared.decide.Action.the-variants.{Nothing, ReadMemory, RepeatByte, Store, StoreLast, Combine}
+use Rattle.unit.specs.declared.decide.Action.the-variants.{Nothing}
 use Rattle.unit.specs.declared.unit.Unit.{Unit as TheUnit}
 use Rattle.unit.proofs.FieldLaws.{named-last}
-use Rattle.unit.proofs.PlanLaws.{decided-has}
+use Rattle.unit.proofs.PlanLaws.{action-is, decided-has}
 use Rattle.unit.proofs.DecideLaws.{memory-passed, fields-passed, span-passed, named-passed, names-length, data-passed}
 
 -- ---- a span that a window holds is in memory, where no window ends past it
@@ -83,33 +83,17 @@ authorised-extended w h e =
     eqb-true (h .extended) 0
     (first-true (eqb (h .extended) 0) (some (λ x. holds x (h .address) (spanSize h) && hasRight (kindIn h) x) (used w)) e)
 
--- ---- the actions, kind by kind
+-- ---- the actions
 
-module _ (h : Header) (status : Status) (from k p n : ℕ) (ends : from + k ≡ p) where
-  read-granted : (t s : Bool) → h .address + cond s (h .length) (min (h .length) 1) ≤ n
-      → Granted (cond t (cond s (ReadMemory (h .address) (h .length)) (RepeatByte (h .address) (h .length))) Nothing) p n
-  read-granted true true r = (r, tt)
-  read-granted true false r = (tt, tt)
-  read-granted false s r = (tt, tt)
-
-  rmw-granted : (t : Bool) → (t ≡ true → k ≡ h .length + 1) → h .address + h .length / 2 ≤ n
-      → Granted (cond t (Combine (h .address) from (h .length / 2)) Nothing) p n
-  rmw-granted true e r = let l = e refl in (r, (r, omega (arith, ends, l)))
-  rmw-granted false e r = (tt, tt)
-
-  write-granted : (t s : Bool) → h .address + cond s (h .length) (min (h .length) 1) ≤ n
-      → Granted (cond t Nothing (cond s (Store (h .address) from (min k (h .length))) (StoreLast (h .address) from (min k (h .length))))) p n
-  write-granted true s r = (tt, tt)
-  write-granted false true r = (tt, (omega (arith, r), omega (arith, ends)))
-  write-granted false false r = (tt, (omega (arith, r), omega (arith, ends)))
-
-  memory-granted : (kind : Kind) → (isSuccess status ≡ true → k ≡ cond (isRead kind) 0 (h .length + 1))
-      → h .address + cond (isRmw kind) (h .length / 2) (cond (isIncrementing (h .instruction)) (h .length) (min (h .length) 1)) ≤ n
-      → Granted (actionOf kind h status from k) p n
-  memory-granted Unused e r = (tt, tt)
-  memory-granted Read e r = read-granted (isSuccess status) (isIncrementing (h .instruction)) r
-  memory-granted ReadModifyWrite e r = rmw-granted (isSuccess status) e r
-  memory-granted Write e r = write-granted (isVerified (h .instruction) && not (isSuccess status)) (isIncrementing (h .instruction)) r
+memory-granted : (kind : Kind) (h : Header) (status : Status) (from k p n : ℕ) → from + k ≡ p
+    → (isSuccess status ≡ true → k ≡ cond (isRead kind) 0 (h .length + 1))
+    → h .address + cond (isRmw kind) (h .length / 2) (cond (isIncrementing (h .instruction)) (h .length) (min (h .length) 1)) ≤ n
+    → Granted (actionOf kind h status from k) p n
+memory-granted kind h status from k p n ends e r =
+    action-is (λ a. Granted a p n) kind h status from k (tt, tt) (λ a b c. (rw (a, c) at r, tt)) (λ a b c. (tt, tt))
+    (λ a b. let q = rw a at r in let l = rw a at (e b) in (q, (q, omega (arith, ends, l))))
+    (λ a c. let q = rw (a, c) at r in (tt, (omega (arith, q), omega (arith, ends))))
+    (λ a c. let q = rw (a, c) at r in (tt, (omega (arith, q), omega (arith, ends))))
 
 fields-granted : (kind : Kind) (h : Header) (p : List ℕ) (from size n : ℕ) → isFieldLength kind (h .length) ≡ true
     → fieldOf (h .address) + fieldCount kind (h .length) ≤ 2 ^ 14 → Granted (fieldActionOf kind h p from) size n
@@ -136,7 +120,7 @@ module _ (u : TheUnit) (h : Header) (path : Path) (p : List ℕ) (end : End) (li
   unfolding spanSize wantedCount
   accepted-memory e s =
       let span = span-room u h n works (span-passed (u .windows) h (memory-passed u h path link e s) .1) in
-      memory-granted h status from (length p - from) (length p) n (omega arith) (kindIn h)
+      memory-granted (kindIn h) h status from (length p - from) (length p) n (omega arith)
       (λ t. sym (length-drop from p) ∙ data-passed (drop from p) (wantedCount h) end t .1) span
 
   pub accepted-field : (h .protocol ≡ 0x01 → ⊥) → isSuccess (headerStatus u h path link) ≡ true → Granted (fieldAction h status p from) (length p) n

@@ -30,6 +30,7 @@ use Rattle.unit.specs.declared.decide.Action.the-variants.{Nothing, Read
 use Rattle.unit.specs.declared.unit.Unit.{Unit as TheUnit}
 use Rattle.unit.proofs.ActLaws.{length-now}
 use Rattle.unit.proofs.DecideLaws.{writes}
+use Rattle.unit.proofs.PlanLaws.{action-is}
 use Rattle.unit.proofs.GrantLaws.{accepted-memory}
 
 -- ---- the bytes that an action puts into memory
@@ -160,28 +161,12 @@ module _ (m n : List ℕ) (same : length m ≡ length n) where
 
 -- ---- a memory command stays in its span
 
-read-stays : (t s : Bool) (at n : ℕ) → StaysIn at (cond s n (min n 1)) (cond t (cond s (ReadMemory at n) (RepeatByte at n)) Nothing)
-read-stays true true at n = (refl, omega arith)
-read-stays true false at n = (refl, omega arith)
-read-stays false s at n = tt
-
-rmw-stays : (t : Bool) (at from count : ℕ) → StaysIn at count (cond t (Combine at from count) Nothing)
-rmw-stays true at from count = (refl, omega arith)
-rmw-stays false at from count = tt
-
-write-stays : (t s : Bool) (at from k n : ℕ)
-    → StaysIn at (cond s n (min n 1)) (cond t Nothing (cond s (Store at from (min k n)) (StoreLast at from (min k n))))
-write-stays true s at from k n = tt
-write-stays false true at from k n = (refl, omega arith)
-write-stays false false at from k n = (refl, omega arith)
-
 action-stays : (kind : Kind) (h : Header) (s : Status) (from k : ℕ)
     → StaysIn (h .address) (cond (isRmw kind) (h .length / 2) (cond (isIncrementing (h .instruction)) (h .length) (min (h .length) 1))) (actionOf kind h s from k)
-action-stays Unused h s from k = tt
-action-stays Read h s from k = read-stays (isSuccess s) (isIncrementing (h .instruction)) (h .address) (h .length)
-action-stays ReadModifyWrite h s from k = rmw-stays (isSuccess s) (h .address) from (h .length / 2)
-action-stays Write h s from k =
-    write-stays (isVerified (h .instruction) && not (isSuccess s)) (isIncrementing (h .instruction)) (h .address) from k (h .length)
+action-stays kind h s from k =
+    action-is (StaysIn (h .address) (cond (isRmw kind) (h .length / 2) (cond (isIncrementing (h .instruction)) (h .length) (min (h .length) 1)))) kind h s from k tt
+    (λ a b c. rw (a, c) (refl, omega arith)) (λ a b c. rw (a, c) (refl, omega arith)) (λ a b. rw a (refl, omega arith)) (λ a c. rw (a, c) (refl, omega arith))
+    (λ a c. rw (a, c) (refl, omega arith))
 
 -- an accepted memory command: what it leaves of memory m, and of a memory that is like m in its span
 module _ (u : TheUnit) (h : Header) (path : Path) (p : List ℕ) (end : End) (link : ℕ) (m : List ℕ) (works : usable u (length m) ≡ true)

@@ -1,28 +1,60 @@
 -- Laws of plans: what holds of every plan, from what holds of what its halves chose.
 use mathlib.Core.Path.{_≡_, refl, sym, _∙_, ap}
-use mathlib.Core.Bool.{Bool, true, false, cond, false≢true}
+use mathlib.Core.Bool.{Bool, true, false, cond, not, _&&_, false≢true}
 use mathlib.Core.Logic.{_↔_}
 use mathlib.Core.List.{List}
-use Prim.Native.Nat.{ℕ, _-_, _<_, _≤_}
+use Prim.Native.Nat.{ℕ, _-_, _/_, _<_, _≤_, min}
 use native.Mathlib.Omega.{arith}
 use borrow.Author.Tests.{ltb-true, ltb-false, eqb-true, eqb-false}
 use lib.Dec.{eqb, ltb}
 use lib.ListN.{length, drop}
-use Rattle.packets.specs.Instruction.{wantsReply, headerSize}
+use Rattle.packets.specs.Instruction.{isVerified, isIncrementing, wantsReply, headerSize}
 use Rattle.packets.specs.Reply.{replyLength}
+use Rattle.packets.specs.declared.instruction.Kind.{Kind}
+use Rattle.packets.specs.declared.instruction.Kind.the-variants.{Unused, Read, ReadModifyWrite, Write}
 use Rattle.packets.specs.declared.header.Header.{Header}
 use Rattle.packets.specs.declared.path.Path.{Path}
 use Rattle.packets.specs.declared.reading.End.{End}
 use Rattle.unit.specs.Fate.{byteOf, isSuccess, orElse, fateNumber}
 use Rattle.unit.specs.Decide.{headerStatus, wantedCount, dataStatus}
-use Rattle.unit.specs.Plan.{memoryAction, fieldAction, replyCount, plannedFor, decidedByData, decided}
+use Rattle.unit.specs.Plan.{actionOf, memoryAction, fieldAction, replyCount, plannedFor, decidedByData, decided}
 use Rattle.unit.specs.declared.fate.Status.{Status}
 use Rattle.unit.specs.declared.fate.Fate.{Fate}
 use Rattle.unit.specs.declared.fate.Fate.the-variants.{TimeChanged, Unusable, NoSuchLink, NoRoom, Unread, TimeThrownAway, NotObeyed, Obeyed, TimeTaken, Replied}
 use Rattle.unit.specs.declared.decide.Action.{Action}
-use Rattle.unit.specs.declared.decide.Action.the-variants.{Nothing}
+use Rattle.unit.specs.declared.decide.Action.the-variants.{Nothing, ReadMemory, RepeatByte, Store, StoreLast, Combine}
 use Rattle.unit.specs.declared.decide.Plan.{Plan}
 use Rattle.unit.specs.declared.unit.Unit.{Unit as TheUnit}
+
+-- ---- a memory action is nothing, or goes by the kind of the command and its increment bit
+
+pub action-is : (P : Action → Type 0) (kind : Kind) (h : Header) (s : Status) (from k : ℕ) → P Nothing
+    → (kind ≡ Read → isSuccess s ≡ true → isIncrementing (h .instruction) ≡ true → P (ReadMemory (h .address) (h .length)))
+    → (kind ≡ Read → isSuccess s ≡ true → isIncrementing (h .instruction) ≡ false → P (RepeatByte (h .address) (h .length)))
+    → (kind ≡ ReadModifyWrite → isSuccess s ≡ true → P (Combine (h .address) from (h .length / 2)))
+    → (kind ≡ Write → isIncrementing (h .instruction) ≡ true → P (Store (h .address) from (min k (h .length))))
+    → (kind ≡ Write → isIncrementing (h .instruction) ≡ false → P (StoreLast (h .address) from (min k (h .length))))
+    → P (actionOf kind h s from k)
+action-is P Unused h s from k none read repeat combine store last = none
+action-is P Read h s from k none read repeat combine store last = go (isSuccess s) (isIncrementing (h .instruction)) refl refl
+  where
+    go : (t b : Bool) → isSuccess s ≡ t → isIncrementing (h .instruction) ≡ b
+        → P (cond t (cond b (ReadMemory (h .address) (h .length)) (RepeatByte (h .address) (h .length))) Nothing)
+    go true true e f = read refl e f
+    go true false e f = repeat refl e f
+    go false b e f = none
+action-is P ReadModifyWrite h s from k none read repeat combine store last = go (isSuccess s) refl
+  where
+    go : (t : Bool) → isSuccess s ≡ t → P (cond t (Combine (h .address) from (h .length / 2)) Nothing)
+    go true e = combine refl e
+    go false e = none
+action-is P Write h s from k none read repeat combine store last = go (isVerified (h .instruction) && not (isSuccess s)) (isIncrementing (h .instruction)) refl
+  where
+    go : (t b : Bool) → isIncrementing (h .instruction) ≡ b
+        → P (cond t Nothing (cond b (Store (h .address) from (min k (h .length))) (StoreLast (h .address) from (min k (h .length)))))
+    go true b f = none
+    go false true f = store refl f
+    go false false f = last refl f
 
 -- ---- a plan is one of four: no room for its reply, a reply, or, where none was asked for, obeyed or refused
 

@@ -1,5 +1,5 @@
 -- A usable unit is usable after any call.
-use mathlib.Core.Path.{_≡_, refl}
+use mathlib.Core.Path.{_≡_, refl, ap}
 use mathlib.Core.Bool.{Bool, true, false, cond, not, _&&_, _||_, false≢true}
 use mathlib.Core.List.{List}
 use Prim.Native.Nat.{ℕ, _+_, _*_, _%_, _^_, _<_, _≤_}
@@ -18,31 +18,24 @@ use Rattle.packets.specs.Header.{instructionAt}
 use Rattle.packets.specs.Path.{pathOf}
 use Rattle.packets.specs.Reading.{refused, timePacket, command, readCommand, readProtocol, readPacket}
 use Rattle.packets.specs.Time.{isTimePacket, timeAt, readTime}
-use Rattle.packets.specs.declared.header.Header.{Header}
 use Rattle.packets.specs.declared.path.Path.{Path}
 use Rattle.packets.specs.declared.reading.End.{End}
 use Rattle.packets.specs.declared.reading.Packet.{Packet}
-use Rattle.packets.specs.declared.reading.Reading.{Reading}
-use Rattle.packets.specs.declared.reading.Reading.the-variants.{Refused, Time, Command}
 use Rattle.packets.specs.declared.time.When.{When}
 use Rattle.packets.specs.declared.time.When.the-variants.{AtWrap, AtOnce}
 use Rattle.packets.specs.declared.time.Time.{Time as TheTime}
+use Rattle.packets.specs.declared.time.TimeReading.{TimeReading}
 use Rattle.packets.specs.declared.time.TimeReading.the-variants.{ThrownAway, Taken}
 use Rattle.packets.proofs.PathLaws.{path-short}
 use Rattle.packets.proofs.TimeLaws.{time-twelve}
 use Rattle.unit.specs.Some.{some}
-use Rattle.unit.specs.Fate.{isSuccess}
 use Rattle.unit.specs.Windows.{meets, used}
 use Rattle.unit.specs.Usable.{fitsTime, usableUnit, usable}
 use Rattle.unit.specs.Clock.{timeOf, secondsOf, setAt, afterTime, atWrap, fractionSet, afterCode, afterTicks, timeCodeWritten}
 use Rattle.unit.specs.Owner.{unowned, swapped}
 use Rattle.unit.specs.Fields.{dividerWritten}
-use Rattle.unit.specs.Decide.{kindIn, wantedCount, dataStatus}
-use Rattle.unit.specs.Plan.{fieldAction}
-use Rattle.unit.specs.Act.{withClock, withFields, withOwner, changed, countedUnit}
-use Rattle.unit.specs.Calls.{Outcome, withoutReply, leaving, takeTime, takeCommand, takeReading, takePacket, takeTimeCode, takeTicks}
-use Rattle.unit.specs.declared.fate.Status.{Status}
-use Rattle.unit.specs.declared.fate.Fate.the-variants.{Unusable, NoSuchLink, TimeTaken}
+use Rattle.unit.specs.Act.{withClock, withFields, withOwner}
+use Rattle.unit.specs.Calls.{isLink, takePacket, takeTimeCode, takeTicks}
 use Rattle.unit.specs.declared.windows.Question.the-variants.{EndsPast}
 use Rattle.unit.specs.declared.clock.Clock.{Clock}
 use Rattle.unit.specs.declared.clock.Elapsed.{Elapsed}
@@ -50,7 +43,7 @@ use Rattle.unit.specs.declared.clock.Waiting.{Waiting}
 use Rattle.unit.specs.declared.clock.Waiting.the-variants.{NoValue, Value}
 use Rattle.unit.specs.declared.owner.Owner.{Owner}
 use Rattle.unit.specs.declared.unit.Unit.{Unit as TheUnit}
-use Rattle.unit.proofs.CommandLaws.{field-changes, command-is}
+use Rattle.unit.proofs.CommandLaws.{unit-is}
 
 -- ---- the causes, one by one
 
@@ -212,82 +205,52 @@ pub alone : (u : TheUnit) (n : ℕ) → usable u n ≡ true → usableUnit u ≡
 unfolding usable
 alone u n e = second-true (leb 1 n && leb n 65536 && not (some (meets (EndsPast n)) (used (u .windows)))) (usableUnit u) e
 
-taken-time : (u : TheUnit) (t : TheTime) (n : ℕ) → t .value < 2 ^ 56 → usable u n ≡ true
-    → usable (countedUnit TimeTaken (withClock u (afterTime (u .clock) t))) n ≡ true
-unfolding usableUnit
-taken-time u t n h e =
-    let k = alone u n e in
-    with-memory u (countedUnit TimeTaken (withClock u (afterTime (u .clock) t))) n e refl
-    (with-clock u (afterTime (u .clock) t) k (after-time (u .clock) t h (clock-works u k)))
-
-usable-time : (u : TheUnit) (p : List ℕ) (end : End) (n : ℕ) → Digits 256 p → usable u n ≡ true
-    → usable (takeTime (readTime p end (u .logical) (u .number)) u .unit) n ≡ true
-unfolding readTime usable usableUnit
-usable-time u p end n d e = go (isTimePacket p end (u .logical) (u .number)) refl
+-- a time packet of bytes has a T below 2^56
+taken-below : (p : List ℕ) (end : End) (logical number : ℕ) (t : TheTime) → Digits 256 p → readTime p end logical number ≡ Taken t → t .value < 2 ^ 56
+unfolding readTime
+taken-below p end logical number t d = go (isTimePacket p end logical number) refl
   where
-    go : (t : Bool) → isTimePacket p end (u .logical) (u .number) ≡ t → usable (takeTime (cond t (Taken (timeAt p)) ThrownAway) u .unit) n ≡ true
-    go true f =
-        let twelve = time-twelve p end (u .logical) (u .number) f in
-        taken-time u (timeAt p) n (number-below p 4 7 d (omega (arith, twelve))) e
-    go false f = e
+    value-in : TimeReading → ℕ
+    value-in r = elim r [ ThrownAway ↦ 2 ^ 56 | Taken s ↦ s .value ]
 
-usable-command : (u : TheUnit) (h : Header) (path : Path) (p : List ℕ) (end : End) (link : ℕ) (m r : List ℕ) → path .count ≤ 12 → link ≤ 31
-    → usable u (length m) ≡ true → usable (takeCommand u h path p end link m r .answer .unit) (length m) ≡ true
-unfolding usable usableUnit
-usable-command u h path p end link m r short low e =
-    command-is u h path p end link m r (λ o. usable (o .answer .unit) (length m) ≡ true) e (λ a. (λ w. e, λ w. e)) (λ q a. (λ w. e, λ w. e))
-    (λ q a. (λ w. after-fields, λ w. after-fields))
-  where
-    from : ℕ
-    from = headerSize (h .instruction)
+    is-taken : TimeReading → ℕ
+    is-taken r = elim r [ ThrownAway ↦ 0 | Taken s ↦ 1 ]
 
-    status : Status
-    status = dataStatus (drop from p) (wantedCount h) end
-
-    works-alone : usableUnit u ≡ true
-    works-alone = alone u (length m) e
-
-    after-fields : usable (changed (fieldAction h status p from) u (h .initiator) path link) (length m) ≡ true
-    after-fields =
-        field-changes u h path p link from (λ v. usable v (length m) ≡ true) (isSuccess status) (kindIn h) e
-        (λ new expected t k.
-        let o = swapped (u .owner) new expected (h .initiator) path link in
-        with-memory u (withOwner u o) (length m) e refl (with-owner u o works-alone (after-swap (u .owner) new expected (h .initiator) path link short low (owner-works u works-alone))))
-        (λ word t k. (
-          with-memory u (withClock u (timeCodeWritten (u .clock) word)) (length m) e refl
-              (with-clock u (timeCodeWritten (u .clock) word) works-alone (code-written (u .clock) word (clock-works u works-alone))),
-          with-memory u (withFields u (dividerWritten (u .fields) word)) (length m) e refl works-alone,
-        ))
-
-usable-reading : (read : Reading) (u : TheUnit) (path : Path) (p : List ℕ) (end : End) (link : ℕ) (m r : List ℕ) → Digits 256 p → path .count ≤ 12
-    → link ≤ 31 → usable u (length m) ≡ true → usable (takeReading read u path p end link m r .answer .unit) (length m) ≡ true
-unfolding usable usableUnit
-usable-reading (Refused why) u path p end link m r d short low e = e
-usable-reading Time u path p end link m r d short low e = usable-time u p end (length m) d e
-usable-reading (Command h) u path p end link m r d short low e = usable-command u h path p end link m r short low e
+    go : (b : Bool) → isTimePacket p end logical number ≡ b → cond b (Taken (timeAt p)) ThrownAway ≡ Taken t → t .value < 2 ^ 56
+    go true f e =
+        let twelve = time-twelve p end logical number f in
+        rw (ap value-in e) at (number-below p 4 7 d (omega (arith, twelve)))
+    go false f e = absurd (omega (arith, ap is-taken e))
 
 -- any packet of bytes
 pub usable-packet : (u : TheUnit) (p : List ℕ) (end : End) (link : ℕ) (m r : List ℕ) → Digits 256 p → usable u (length m) ≡ true
     → usable (takePacket u p end link m r .answer .unit) (length m) ≡ true
-unfolding takePacket
+unfolding usable usableUnit
 usable-packet u p end link m r d e =
-    go (usable u (length m)) (leb 1 link && leb link (u .links)) refl
-    (λ low. usable-reading (readPacket p (u .number) .reading) u (readPacket p (u .number) .path) p end link m r d (packet-short p (u .number)) low e)
+    unit-is u p end link m r (λ v. usable v (length m) ≡ true) (λ f v x. x) e
+    (λ w t g. let c = afterTime (u .clock) t in
+    with-memory u (withClock u c) (length m) e refl (with-clock u c k (after-time (u .clock) t (taken-below p end (u .logical) (u .number) t d g) (clock-works u k))))
+    (λ w there h g q a. (
+      λ x new expected. let o = swapped (u .owner) new expected (h .initiator) path link in
+          with-memory u (withOwner u o) (length m) e refl (with-owner u o k (after-swap (u .owner) new expected (h .initiator) path link (packet-short p (u .number)) (low there) (owner-works u k))),
+      λ x word. (
+        with-memory u (withClock u (timeCodeWritten (u .clock) word)) (length m) e refl
+            (with-clock u (timeCodeWritten (u .clock) word) k (code-written (u .clock) word (clock-works u k))),
+        with-memory u (withFields u (dividerWritten (u .fields) word)) (length m) e refl k,
+      ),
+    ))
   where
-    o : Outcome
-    o = takeReading (readPacket p (u .number) .reading) u (readPacket p (u .number) .path) p end link m r
+    path : Path
+    path = readPacket p (u .number) .path
 
-    most : leb (u .links) 31 ≡ true
-    most = works u (alone u (length m) e) .4
+    k : usableUnit u ≡ true
+    k = alone u (length m) e
 
-    go : (t s : Bool) → (leb 1 link && leb link (u .links)) ≡ s → (link ≤ 31 → usable (o .answer .unit) (length m) ≡ true)
-        → usable (cond (not t) (leaving (withoutReply Unusable u) m r) (cond (not s) (leaving (withoutReply NoSuchLink u) m r) o) .answer .unit) (length m) ≡ true
-    go false s f k = e
-    go true false f k = e
-    go true true f k =
-        let a = leb-true link (u .links) (second-true (leb 1 link) (leb link (u .links)) f) in
-        let b = leb-true (u .links) 31 most in
-        k (omega (arith, a, b))
+    low : isLink u link ≡ true → link ≤ 31
+    low there =
+        let a = leb-true link (u .links) (second-true (leb 1 link) (leb link (u .links)) there) in
+        let b = leb-true (u .links) 31 (works u k .4) in
+        omega (arith, a, b)
 
 -- any Time-Code, any ticks
 pub usable-code : (u : TheUnit) (byte : ℕ) → usableUnit u ≡ true → usableUnit (takeTimeCode u byte .unit) ≡ true

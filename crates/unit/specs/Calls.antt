@@ -1,5 +1,5 @@
 -- The three calls (document 01, 'The terminal and its neighbours', 'Numbers a caller gets'). This is what a packet means.
-use mathlib.Core.Bool.{cond, not, _&&_}
+use mathlib.Core.Bool.{Bool, cond, not, _&&_}
 use mathlib.Core.List.{List}
 use Prim.Native.Nat.{ℕ, _%_, _^_}
 use lib.Dec.{leb}
@@ -63,11 +63,15 @@ takeReading (Refused why) u path p end link m r = leaving (withoutReply (Unread 
 takeReading Time u path p end link m r = leaving (takeTime (readTime p end (u .logical) (u .number)) u) m r
 takeReading (Command h) u path p end link m r = takeCommand u h path p end link m r
 
+-- A link of the unit: 1 up to the link count.
+abbrev pub isLink : TheUnit → ℕ → Bool
+isLink u link = leb 1 link && leb link (u .links)
+
 -- A packet p with its end, on a link, with memory m and reply buffer r. 1 goes before 2, 2 before all else; both leave everything.
 unfoldable pub takePacket : TheUnit → List ℕ → End → ℕ → List ℕ → List ℕ → Outcome
 takePacket u p end link m r =
     cond (not (usable u (length m))) (leaving (withoutReply Unusable u) m r)
-    (cond (not (leb 1 link && leb link (u .links))) (leaving (withoutReply NoSuchLink u) m r)
+    (cond (not (isLink u link)) (leaving (withoutReply NoSuchLink u) m r)
     (takeReading (readPacket p (u .number) .reading) u (readPacket p (u .number) .path) p end link m r))
 
 -- The small calls answer 1 (less its two memory causes) or 0.
