@@ -1,6 +1,7 @@
 -- Outcomes are determined: no function has a `requires`, and each promise is an equation for the result, and one for each lent buffer.
 use mathlib.Core.Path.{sym, _∙_}
-use Rattle.demands.specs.Outcomes.{OctetsDetermined, PacketsDetermined, UnitDetermined, OctetsAskNothing, PacketsAskNothing, UnitAsksNothing}
+use Rattle.demands.specs.Outcomes.{OctetsDetermined, PacketsDetermined, UnitDetermined, RecordsDetermined}
+use Rattle.demands.specs.Outcomes.{OctetsAskNothing, PacketsAskNothing, UnitAsksNothing, RecordsAskNothing}
 
 pub octets-determined : OctetsDetermined
 octets-determined = (
@@ -17,6 +18,8 @@ octets-determined = (
   λ κs a z z′ e e′ p q. p ∙ sym q,
   λ κs a z z′ e e′ p q. p ∙ sym q,
   λ κs a z z′ e e′ p q. p ∙ sym q,
+  λ κs a z z′ e e′ p q. p .0 ∙ sym (q .0),
+  λ κs a z z′ e e′ p q. p .1 ∙ sym (q .1),
   λ κs a z z′ e e′ p q. p .0 ∙ sym (q .0),
   λ κs a z z′ e e′ p q. p .1 ∙ sym (q .1),
   λ κs a z z′ e e′ p q. p .0 ∙ sym (q .0),
@@ -63,11 +66,26 @@ unit-determined = (
   λ κs a z z′ e e′ p q. p ∙ sym q,
 )
 
+pub records-determined : RecordsDetermined
+records-determined = (
+  λ κs a z z′ e e′ p q. p ∙ sym q,
+  λ κs a z z′ e e′ p q. p ∙ sym q,
+  λ κs a z z′ e e′ p q. p ∙ sym q,
+  λ κs a z z′ e e′ p q. p ∙ sym q,
+  λ κs a z z′ e e′ p q. p .0 ∙ sym (q .0),
+  λ κs a z z′ e e′ p q. p .1 .1 .0 ∙ sym (q .1 .1 .0),
+  λ κs a z z′ e e′ p q. p .1 .1 .1 .0 ∙ sym (q .1 .1 .1 .0),
+  λ κs a z z′ e e′ p q. p .1 .1 .1 .1 ∙ sym (q .1 .1 .1 .1),
+)
+
 pub octets-ask-nothing : OctetsAskNothing
-octets-ask-nothing = (λ κs a. tt, λ κs a. tt, λ κs a. tt, λ κs a. tt, λ κs a. tt, λ κs a. tt, λ κs a. tt, λ κs a. tt, λ κs a. tt, λ κs a. tt, λ κs a. tt, λ κs a. tt, λ κs a. tt, λ κs a. tt)
+octets-ask-nothing = (λ κs a. tt, λ κs a. tt, λ κs a. tt, λ κs a. tt, λ κs a. tt, λ κs a. tt, λ κs a. tt, λ κs a. tt, λ κs a. tt, λ κs a. tt, λ κs a. tt, λ κs a. tt, λ κs a. tt, λ κs a. tt, λ κs a. tt)
 
 pub packets-ask-nothing : PacketsAskNothing
 packets-ask-nothing = (λ κs a. tt, λ κs a. tt, λ κs a. tt, λ κs a. tt, λ κs a. tt, λ κs a. tt, λ κs a. tt, λ κs a. tt, λ κs a. tt, λ κs a. tt, λ κs a. tt, λ κs a. tt, λ κs a. tt, λ κs a. tt, λ κs a. tt, λ κs a. tt, λ κs a. tt, λ κs a. tt, λ κs a. tt, λ κs a. tt, λ κs a. tt, λ κs a. tt)
 
 pub unit-asks-nothing : UnitAsksNothing
 unit-asks-nothing = (λ κs a. tt, λ κs a. tt, λ κs a. tt, λ κs a. tt, λ κs a. tt, λ κs a. tt)
+
+pub records-ask-nothing : RecordsAskNothing
+records-ask-nothing = (λ κs a. tt, λ κs a. tt, λ κs a. tt, λ κs a. tt, λ κs a. tt)

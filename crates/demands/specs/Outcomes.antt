@@ -18,6 +18,7 @@ use Rattle.octets.proofs.bytes4.Reads.{Asked as asked·bytes4, Learnt as promis
 use Rattle.octets.proofs.bytes7.Reads.{Asked as asked·bytes7, Learnt as promise·bytes7}
 use Rattle.octets.proofs.copy_part.Reads.{Asked as asked·copy_part, Learnt as promise·copy_part}
 use Rattle.octets.proofs.fill.Reads.{Asked as asked·fill, Learnt as promise·fill}
+use Rattle.octets.proofs.move_to_start.Reads.{Asked as asked·move_to_start, Learnt as promise·move_to_start}
 use Rattle.packets.proofs.instruction.Instruction.packet_type.Reads.{Asked as asked·Instruction·packet_type, Learnt as promise·Instruction·packet_type}
 use Rattle.packets.proofs.instruction.Instruction.is_write.Reads.{Asked as asked·Instruction·is_write, Learnt as promise·Instruction·is_write}
 use Rattle.packets.proofs.instruction.Instruction.is_verified.Reads.{Asked as asked·Instruction·is_verified, Learnt as promise·Instruction·is_verified}
@@ -46,6 +47,11 @@ use Rattle.unit.proofs.fate.Fate.status.Reads.{Asked as asked·Fate·status, Le
 use Rattle.unit.proofs.take_packet.Reads.{Asked as asked·take_packet, Learnt as promise·take_packet}
 use Rattle.unit.proofs.take_time_code.Reads.{Asked as asked·take_time_code, Learnt as promise·take_time_code}
 use Rattle.unit.proofs.take_ticks.Reads.{Asked as asked·take_ticks, Learnt as promise·take_ticks}
+use Rattle.records.proofs.record.Item.size.Reads.{Asked as asked·Item·size, Learnt as promise·Item·size}
+use Rattle.records.proofs.read_record.Reads.{Asked as «asked·read_record», Learnt as «promise·read_record»}
+use Rattle.records.proofs.bench.Stage.is_over.Reads.{Asked as asked·Stage·is_over, Learnt as promise·Stage·is_over}
+use Rattle.records.proofs.start.Reads.{Asked as asked·start, Learnt as promise·start}
+use Rattle.records.proofs.run.Reads.{Asked as asked·run, Learnt as promise·run}
 
 -- What a function asks and promises, as the checker makes it of the function's own `requires` and `ensures`: a claim on lifetimes and arguments; and one on
 -- lifetimes, arguments, result, and what each argument is at exit. That none is left out here the gate looks up (tools/promises).
@@ -83,6 +89,8 @@ OctetsDetermined =
     × (OneExit promise·copy_part (λ κs e. now (e .1 .1 .1 .0)))
     × (OneResult promise·fill)
     × (OneExit promise·fill (λ κs e. now (e .0)))
+    × (OneResult promise·move_to_start)
+    × (OneExit promise·move_to_start (λ κs e. now (e .0)))
 
 abbrev pub PacketsDetermined : Type 0
 PacketsDetermined =
@@ -122,6 +130,17 @@ UnitDetermined =
     × (OneResult promise·take_time_code)
     × (OneResult promise·take_ticks)
 
+abbrev pub RecordsDetermined : Type 0
+RecordsDetermined =
+    (OneResult promise·Item·size)
+    × (OneResult «promise·read_record»)
+    × (OneResult promise·Stage·is_over)
+    × (OneResult promise·start)
+    × (OneResult promise·run)
+    × (OneExit promise·run (λ κs e. now (e .1 .1 .1 .0)))
+    × (OneExit promise·run (λ κs e. now (e .1 .1 .1 .1 .0)))
+    × (OneExit promise·run (λ κs e. now (e .1 .1 .1 .1 .1 .0)))
+
 abbrev pub OctetsAskNothing : Type 0
 OctetsAskNothing =
     AsksNothing asked·crc_of
@@ -138,6 +157,7 @@ OctetsAskNothing =
     × AsksNothing asked·bytes7
     × AsksNothing asked·copy_part
     × AsksNothing asked·fill
+    × AsksNothing asked·move_to_start
 
 abbrev pub PacketsAskNothing : Type 0
 PacketsAskNothing =
@@ -172,3 +192,11 @@ UnitAsksNothing =
     × AsksNothing asked·take_packet
     × AsksNothing asked·take_time_code
     × AsksNothing asked·take_ticks
+
+abbrev pub RecordsAskNothing : Type 0
+RecordsAskNothing =
+    AsksNothing asked·Item·size
+    × AsksNothing «asked·read_record»
+    × AsksNothing asked·Stage·is_over
+    × AsksNothing asked·start
+    × AsksNothing asked·run

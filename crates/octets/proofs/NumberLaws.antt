@@ -111,7 +111,7 @@ module _ (base : ℕ) (some : zero < base) where
 pub number-bytes : (width n : ℕ) → n < 256 ^ width → number (bytesOf width n) ≡ n
 number-bytes width n h = worth-digits 256 (omega arith) width n ∙ mod-eq-of-lt h
 
-digits-part : (s : List ℕ) (at width : ℕ) → Digits 256 s → Digits 256 (part at width s)
+pub digits-part : (s : List ℕ) (at width : ℕ) → Digits 256 s → Digits 256 (part at width s)
 digits-part s at width t = digits-take 256 width (drop at s) (digits-drop 256 at s t)
 
 -- bytes of a place are the bytes of the number that they are worth

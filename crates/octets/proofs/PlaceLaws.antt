@@ -6,11 +6,12 @@ use mathlib.Core.List.{List, [], _∷_, _++_, append-assoc, append-nil}
 use Prim.Native.Nat.{ℕ, suc, _+_, _-_, _<_, _≤_}
 use native.Mathlib.Omega.{arith}
 use native.Mathlib.Decide.{decLe}
-use native.Mathlib.Nat.{lt-of-not-le, add-assoc, add-zero}
+use native.Mathlib.Nat.{lt-of-not-le, add-assoc, add-zero, zero-add}
+use native.Mathlib.Numerals.{add-one}
 use borrow.Author.Tests.{leb-true, le-leb, lt-leb}
 use lib.Dec.{leb}
-use lib.ListN.{length, getD, take, drop, replicate, length-replicate, length-append, length-take, length-drop, take-append-drop, List·getD-append}
-use lib.Seq.{ext-getD, paste, take-add, drop-append-add, length-take-le, take-length, take-at, drop-at, drop-drop, getD-take, getD-drop, getD-append-add}
+use lib.ListN.{length, getD, set, take, drop, replicate, length-replicate, length-append, length-take, length-drop, take-append-drop, List·getD-append}
+use lib.Seq.{ext-getD, paste, paste-suc, drop-set-lt, take-add, drop-append-add, length-take-le, take-length, take-at, drop-at, drop-drop, getD-take, getD-drop, getD-append-add}
 use Rattle.octets.proofs.Tabulate.{tabulate, length-tabulate}
 use Rattle.octets.proofs.Tabulate.{at as at-place}
 use Rattle.octets.specs.Places.{within, part, placed, copyFits, copied, filled}
@@ -158,6 +159,25 @@ placed-over at p q d h k =
     getD-drop (0 + length p) (placed at q d) i 0
     ∙ placed-after at q d (omega arith) (0 + length p + i) (omega arith)
     ∙ sym (getD-drop (0 + length p) d i 0)))
+
+-- a move to the start, byte by byte: what is read next has not been put over
+module _ (s d : List ℕ) (from count i : ℕ) (there : from + count ≤ length d) (more : i < count) (rest : drop i s ≡ drop i d) where
+  move-read : getD s (from + i) 0 ≡ getD d (from + i) 0
+  move-read =
+      ap (λ (k : ℕ). getD s k 0) (omega arith) ∙ sym (getD-drop i s from 0) ∙ ap (λ (l : List ℕ). getD l from 0) rest ∙ getD-drop i d from 0
+      ∙ ap (λ (k : ℕ). getD d k 0) (omega arith)
+
+  pub move-next : s ≡ paste d 0 (part from count d) i → set s i (getD s (from + i) 0) ≡ paste d 0 (part from count d) (suc i)
+  move-next e =
+      let long : length (part from count d) ≡ count = length-part from count d there in
+      ap (λ (b : ℕ). set s i b) (move-read ∙ sym (part-at from count d i more)) ∙ ap (λ (l : List ℕ). set l i (getD (part from count d) i 0)) e
+      ∙ ap (λ (k : ℕ). set (paste d 0 (part from count d) i) k (getD (part from count d) i 0)) (sym (zero-add i))
+      ∙ paste-suc d 0 (part from count d) i 0 (omega (arith, zero-add i)) (omega (arith, long))
+
+  pub move-rest : (b : ℕ) → drop (suc i) (set s i b) ≡ drop (suc i) d
+  move-rest b =
+      drop-set-lt (suc i) s i b (omega arith) ∙ ap (λ (k : ℕ). drop k s) (sym (add-one i)) ∙ sym (drop-drop 1 i s) ∙ ap (drop 1) rest ∙ drop-drop 1 i d
+      ∙ ap (λ (k : ℕ). drop k d) (add-one i)
 
 -- ---- copies and fills, whether they fit or not
 

@@ -32,6 +32,18 @@ pub fn fill(dst: &mut [u8], at: usize, count: usize, byte: u8) -> bool
     true
 }
 
+// Moves `count` bytes of s, from `from` on, to its start. True if it did.
+pub fn move_to_start(s: &mut [u8], from: usize, count: usize) -> bool
+    ensures answers { λ r. ⌜ r ≡ Places·within from count (now (s .entry)) ⌝ }
+    ensures leaves { λ _. ⌜ now (s .exit) ≡ copied (now (s .entry)) from count (now (s .entry)) 0 ⌝ }
+{
+    if !within(s, from, count) {
+        return false;
+    }
+    move_down(s, from, count);
+    true
+}
+
 // Whether the `count` places from `at` on are all there. No sum here can wrap.
 fn within(s: &[u8], at: usize, count: usize) -> bool
     ensures { λ r. ⌜ r ≡ Places·within at count (now (s .entry)) ⌝ }
@@ -51,6 +63,18 @@ fn copy(src: &[u8], from: usize, count: usize, dst: &mut [u8], at: usize)
     while i < count {
         dst[at + i] = src[from + i];
         i += 1;
+    }
+}
+
+// The loop of move_to_start, over places that are there. A byte is read before one is put in its place.
+fn move_down(s: &mut [u8], from: usize, count: usize)
+    requires { ⌜ from + count ≤ length (now s) ⌝ }
+    ensures { λ _. ⌜ now (s .exit) ≡ placed 0 (part from count (now (s .entry))) (now (s .entry)) ⌝ }
+{
+    let mut to = 0;
+    while to < count {
+        s[to] = s[from + to];
+        to += 1;
     }
 }
 

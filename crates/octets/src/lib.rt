@@ -6,6 +6,7 @@ mod numbers;
 
 pub use copies::copy_part;
 pub use copies::fill;
+pub use copies::move_to_start;
 pub use crc::crc_from;
 pub use crc::crc_of;
 pub use numbers::Number;

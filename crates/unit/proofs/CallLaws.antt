@@ -1,4 +1,4 @@
--- Laws of calls: what fates 1, 2 and 3 leave, the lengths of memory and reply buffer, and what fate and length of the reply are known from.
+-- Laws of calls: what fates 1, 2 and 3 leave, the lengths of memory, reply buffer and reply, and what fate and length of the reply are known from.
 use mathlib.Core.Path.{_≡_, refl}
 use mathlib.Core.Bool.{Bool, true, false, cond}
 use mathlib.Core.List.{List}
@@ -16,11 +16,12 @@ use Rattle.packets.proofs.ReplyLaws.{length-replied}
 use Rattle.unit.specs.Fate.{isSuccess, fateNumber}
 use Rattle.unit.specs.Decide.{headerStatus, wantedCount, dataStatus}
 use Rattle.unit.specs.Plan.{unansweredFate}
-use Rattle.unit.specs.Calls.{Outcome, withoutReply, leaving, takePacket}
+use Rattle.unit.specs.Calls.{Outcome, withoutReply, leaving, takeCommand, takePacket}
 use Rattle.unit.specs.declared.fate.Status.{Status}
 use Rattle.unit.specs.declared.fate.Fate.the-variants.{NotObeyed, Obeyed, Replied}
 use Rattle.unit.specs.declared.unit.Unit.{Unit as TheUnit}
 use Rattle.unit.proofs.FateLaws.{unread-number}
+use Rattle.unit.proofs.PlanLaws.{plan-fits}
 use Rattle.unit.proofs.MemoryLaws.{memory-length}
 use Rattle.unit.proofs.CommandLaws.{packets-are, packet-is, commands-are, command-is}
 
@@ -65,6 +66,13 @@ module _ (u : TheUnit) (p : List ℕ) (end : End) (link : ℕ) where
       where
         buffer : (h : Header) (s : ℕ) (d : List ℕ) → length (replied path h s d r) ≡ length r
         buffer h s d = length-replied path h s d r
+
+    -- and the reply fits into its buffer
+    pub reply-fits : takePacket u p end link m r .answer .length ≤ length r
+    unfolding takeCommand
+    reply-fits =
+        packet-is u p end link m r (λ o. o .answer .length ≤ length r) (λ e. omega arith) (λ e f. omega arith) (λ e f why g. omega arith)
+        (λ e f g. omega arith) (λ e f g t. omega arith) (λ e f h g. plan-fits u h path p end link (length r))
 
   -- of memory only the length tells fate and length of the reply (of the counters nothing does: counters-aside)
   abbrev Same : Outcome → Outcome → Type 0

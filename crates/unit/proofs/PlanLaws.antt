@@ -153,6 +153,18 @@ module _ (u : TheUnit) (h : Header) (path : Path) (p : List ℕ) (end : End) (li
           planned-is h path s a room Roomless (λ w l. (λ n. (w, l), λ x. refl)) (λ w l. (λ n. absurd (omega (arith, n)), λ x. absurd (omega (arith, l, x .1))))
           (λ w e. (λ n. absurd (omega (arith, n)), λ x. absurd (false≢true (sym w ∙ x .0)))) (λ w e. (λ n. absurd (omega (arith, n)), λ x. absurd (false≢true (sym w ∙ x .0))))
 
+  -- the reply fits into the room, or there is none
+  abbrev Fits : Plan → Type 0
+  Fits plan = plan .length ≤ room
+
+  pub plan-fits : Fits (decided u h path p end link room)
+  plan-fits =
+      decided-is Fits (λ a. planned (headerStatus u h path link) Nothing) (λ e a. planned status (memoryAction h status from (length p - from)))
+      (λ e a. planned status (fieldAction h status p from))
+    where
+      planned : (s : Status) (a : Action) → Fits (plannedFor h path s a room)
+      planned s a = planned-is h path s a room Fits (λ w l. omega arith) (λ w l. l) (λ w e. omega arith) (λ w e. omega arith)
+
   -- where it is 20 its status is the plan's, and a reply was asked for
   abbrev RepliesWith : Status → Plan → Type 0
   RepliesWith s plan = plan .fate ≡ Replied s → (plan .status ≡ s) × (wantsReply (h .instruction) ≡ true)

@@ -1,0 +1,70 @@
+-- The bench's unit is usable before the first record and after every one, so Time-Codes and ticks print fate 0, status - and reply 0.
+use mathlib.Core.Path.{_≡_, refl}
+use mathlib.Core.Bool.{Bool, true, false, cond}
+use mathlib.Core.List.{List, []}
+use Prim.Native.Nat.{ℕ, _+_, _%_, _^_}
+use lib.ListN.{length}
+use Rattle.octets.specs.Numbers.{Digits}
+use Rattle.octets.specs.Places.{part}
+use Rattle.octets.proofs.NumberLaws.{digits-part}
+use Rattle.packets.specs.Path.{pathOf, orOneZero, withoutLeadingZeros}
+use Rattle.unit.specs.Clock.{afterCode, afterTicks}
+use Rattle.unit.specs.Act.{withClock}
+use Rattle.unit.specs.Usable.{usableUnit, usable}
+use Rattle.unit.specs.Calls.{withoutReply, takeTimeCode, takeTicks}
+use Rattle.unit.specs.declared.fate.Fate.the-variants.{TimeChanged, Unusable}
+use Rattle.unit.specs.declared.clock.Clock.{Clock}
+use Rattle.unit.specs.declared.unit.Unit.{Unit as TheUnit}
+use Rattle.unit.proofs.CallLaws.{packet-length}
+use Rattle.unit.proofs.UsableLaws.{with-memory, alone, usable-packet, usable-code, usable-ticks}
+use Rattle.records.specs.Text.{recordLine}
+use Rattle.records.specs.Log.{numberAfter, benchUnit, Held, outcomeOf, lineFor, heldAfter}
+use Rattle.records.specs.Record.{sizeOf}
+use Rattle.records.specs.declared.record.Item.{Item}
+use Rattle.records.specs.declared.record.Item.the-variants.{Packet, TimeCode, Ticks}
+
+pub start-usable : usable benchUnit 4096 ≡ true
+unfolding usable usableUnit pathOf orOneZero withoutLeadingZeros
+start-usable = refl
+
+-- a Time-Code and ticks change the clock alone
+small-windows : (t : Bool) (u : TheUnit) (c : Clock) → cond t (withoutReply TimeChanged (withClock u c)) (withoutReply Unusable u) .unit .windows ≡ u .windows
+small-windows true u c = refl
+small-windows false u c = refl
+
+code-windows : (u : TheUnit) (byte : ℕ) → takeTimeCode u byte .unit .windows ≡ u .windows
+unfolding takeTimeCode
+code-windows u byte = small-windows (usableUnit u) u (afterCode (u .clock) (byte % 2 ^ 6))
+
+ticks-windows : (u : TheUnit) (count : ℕ) → takeTicks u count .unit .windows ≡ u .windows
+unfolding takeTicks
+ticks-windows u count = small-windows (usableUnit u) u (afterTicks (u .clock) count)
+
+-- usable with the memory that is held
+abbrev pub Works : Held → Type 0
+Works h = usable (h .bench .unit) (length (h .memory)) ≡ true
+
+pub stays-usable : (item : Item) (s : List ℕ) (h : Held) → Digits 256 s → Works h → Works (heldAfter (outcomeOf item s h) (sizeOf item) h)
+stays-usable (Packet end link size) s h d e =
+    let u = h .bench .unit in
+    let p = part 7 size s in
+    rw (packet-length u p end link (h .memory) (h .reply) .0) (usable-packet u p end link (h .memory) (h .reply) (digits-part s 7 size d) e)
+stays-usable (TimeCode byte) s h d e =
+    let u = h .bench .unit in
+    let n = length (h .memory) in
+    with-memory u (takeTimeCode u byte .unit) n e (code-windows u byte) (usable-code u byte (alone u n e))
+stays-usable (Ticks count) s h d e =
+    let u = h .bench .unit in
+    let n = length (h .memory) in
+    with-memory u (takeTicks u count .unit) n e (ticks-windows u count) (usable-ticks u count (alone u n e))
+
+-- the line of a Time-Code, and of ticks: fate 0, no status, no reply
+abbrev smallLine : Held → List ℕ
+smallLine h = recordLine (numberAfter (h .bench)) TimeChanged []
+
+pub small-zero : (s : List ℕ) (h : Held) → Works h
+    → ((byte : ℕ) → lineFor (outcomeOf (TimeCode byte) s h) h ≡ smallLine h) × ((count : ℕ) → lineFor (outcomeOf (Ticks count) s h) h ≡ smallLine h)
+unfolding takeTimeCode takeTicks
+small-zero s h e =
+    let k = alone (h .bench .unit) (length (h .memory)) e in
+    (λ byte. rw k, λ count. rw k)

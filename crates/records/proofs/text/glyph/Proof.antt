@@ -1,0 +1,23 @@
+-- `records::text::glyph` meets its contract: by the test.
+use borrow.Author.Tests.{lt-ltb, le-ltb}
+use borrow.Author.Needs.{needs}
+use Rattle.records.proofs.text.glyph.Statement.{statement}
+use Rattle.records.proofs.text.glyph.Tie as tie
+
+add-result : tie.Need-add-result
+add-result c = search needs
+
+returns : tie.Need-returns
+returns c = rw (lt-ltb _ _ (c .if1 .taken))
+
+sub-result : tie.Need-sub-result
+sub-result c = search needs
+
+add-result-2 : tie.Need-add-result-2
+add-result-2 c = search needs
+
+returns-2 : tie.Need-returns-2
+returns-2 c = rw (le-ltb _ _ (c .if1 .left))
+
+pub glyph-spec : {M : Type 1} → statement M
+glyph-spec = tie.close (tie.spec add-result returns sub-result add-result-2 returns-2)
