@@ -34,7 +34,7 @@ use Rattle.unit.specs.declared.unit.Unit.{Unit as TheUnit}
 use Rattle.packets.proofs.ReadingLaws.{header-whole}
 use Rattle.unit.proofs.CallLaws.{packet-length}
 use Rattle.unit.proofs.DecideLaws.{write-bit, memory-passed, span-passed}
-use Rattle.unit.proofs.UsableLaws.{with-memory, alone, usable-packet, usable-code, usable-ticks}
+use Rattle.unit.proofs.UsableLaws.{alone, usable-packet, code-with-memory, ticks-with-memory}
 use Rattle.unit.proofs.CommandLaws.{packet-is, command-is}
 use Rattle.unit.proofs.GrantLaws.{authorised-window}
 use Rattle.unit.proofs.MemoryLaws.{memory-outside, storing-kind}
@@ -126,16 +126,10 @@ never-strays u p end link m r = (
 -- ---- histories
 
 -- usable with a memory, call by call
-small-windows : (Moved : Clock → Type 0) (u : TheUnit) (a : Answer) → SmallRow Moved u a → a .unit .windows ≡ u .windows
-small-windows Moved u a (inl s) = ap (λ (v : TheUnit). v .windows) (s .2)
-small-windows Moved u a (inr s) = ap (λ (v : TheUnit). v .windows) (s .2)
-
 usable-call : (u : TheUnit) (n : ℕ) (c : Call) → usable u n ≡ true → Lends n c → usable (answerTo ours u c .unit) n ≡ true
 usable-call u n (packet p end link m r) e l = rw (l .0) at (usable-packet u p end link m r (l .1) (rw (l .0) e))
-usable-call u n (timeCode byte) e l =
-    with-memory u (takeTimeCode u byte .unit) n e (small-windows (ByCode byte) u (takeTimeCode u byte) (small-rows .0 u byte)) (usable-code u byte (alone u n e))
-usable-call u n (ticks count) e l =
-    with-memory u (takeTicks u count .unit) n e (small-windows (ByTicks u) u (takeTicks u count) (small-rows .1 u count)) (usable-ticks u count (alone u n e))
+usable-call u n (timeCode byte) e l = code-with-memory u n byte e
+usable-call u n (ticks count) e l = ticks-with-memory u n count e
 
 pub stays-usable : StaysUsable ours
 unfolding after

@@ -13,14 +13,14 @@ use Rattle.packets.specs.declared.reading.End.{End}
 use Rattle.packets.specs.declared.reading.Refusal.the-variants.{Incomplete, UnknownProtocol, ExtendedProtocol, Reply, HeaderCrc}
 use Rattle.unit.specs.Fate.{fateNumber}
 use Rattle.unit.specs.Counters.{bumpedAt, counterOf, total, countedFor}
-use Rattle.unit.specs.Usable.{usableUnit}
 use Rattle.unit.specs.Clock.{afterCode, afterTicks}
 use Rattle.unit.specs.Act.{withClock}
-use Rattle.unit.specs.Calls.{Outcome, takePacket, withoutReply, smallCall, takeTimeCode, takeTicks}
+use Rattle.unit.specs.Calls.{Outcome, takePacket, smallCall, takeTimeCode, takeTicks}
 use Rattle.unit.specs.declared.fate.Fate.{Fate}
 use Rattle.unit.specs.declared.fate.Fate.the-variants.{TimeChanged, Unusable, NoSuchLink, NoRoom, Unread, TimeThrownAway, NotObeyed, Obeyed, TimeTaken, Replied}
 use Rattle.unit.specs.declared.clock.Clock.{Clock}
 use Rattle.unit.specs.declared.unit.Unit.{Unit as TheUnit}
+use Rattle.unit.proofs.CommandLaws.{small-is}
 use Rattle.unit.proofs.CounterLaws.{counters-aside}
 use Rattle.demands.specs.Terminal.{ours, Call, packet, timeCode, ticks, answerTo, after, fatesOf}
 use Rattle.demands.specs.Counts.{countOf, countOfAll, counted, CountersAreHistory, LowCountNothing}
@@ -34,12 +34,8 @@ packet-counts u p end link m r = ap (λ (o : Outcome). o .answer .unit .counters
 
 small-counts : (u : TheUnit) (c : Clock) → smallCall u (withClock u c) .unit .counters ≡ countedFor (smallCall u (withClock u c) .fate) (u .counters)
 unfolding countedFor
-small-counts u c = go (usableUnit u)
-  where
-    go : (t : Bool) → cond t (withoutReply TimeChanged (withClock u c)) (withoutReply Unusable u) .unit .counters
-        ≡ countedFor (cond t (withoutReply TimeChanged (withClock u c)) (withoutReply Unusable u) .fate) (u .counters)
-    go true = refl
-    go false = refl
+small-counts u c =
+    small-is u (withClock u c) (λ a. a .unit .counters ≡ countedFor (a .fate) (u .counters)) (λ e. refl) (λ e. refl)
 
 call-counts : (u : TheUnit) (c : Call) → answerTo ours u c .unit .counters ≡ countedFor (answerTo ours u c .fate) (u .counters)
 unfolding takeTimeCode takeTicks

@@ -1,6 +1,6 @@
 -- No impostor gets by: for each a witness that computes.
 use mathlib.Core.Path.{_≡_, refl, sym, _∙_, ap}
-use mathlib.Core.Bool.{Bool, true, false, _&&_, _||_, false≢true}
+use mathlib.Core.Bool.{true, false, _&&_, and-false, or-false}
 use mathlib.Core.List.{List, [], _∷_}
 use Prim.Native.Nat.{ℕ, _^_, _<_}
 use native.Mathlib.Omega.{arith}
@@ -101,12 +101,8 @@ refers-4 i = refl
 
 one-only : (c d : Sent) → ((i : ℕ) → refers start c i ≡ true → refers start d i ≡ false) → Clear start (c ∷ []) (d ∷ [])
 unfolding stores
-one-only c d apart i e = rw (apart i (right (isStore (readPacket (c .packet) 0xF0 .reading)) (refers start c i) e))
-  where
-    right : (a b : Bool) → ((a && b) || false) ≡ true → b ≡ true
-    right true true e = refl
-    right true false e = e
-    right false b e = absurd (false≢true e)
+one-only c d apart i e =
+    rw (apart i (second-true (isStore (readPacket (c .packet) 0xF0 .reading)) (refers start c i) (sym (or-false (stores start c i)) ∙ e)))
 
 apart : Apart start (x ∷ []) (y ∷ [])
 apart = (
@@ -120,11 +116,7 @@ apart = (
     high : (i : ℕ) → (leb 4 i && ltb i 6) ≡ true → (leb 0 i && ltb i 2) ≡ false
     high i e =
         let b = leb-true 4 i (first-true (leb 4 i) (ltb i 6) e) in
-        none (leb 0 i) (le-ltb i 2 (omega (arith, b)))
-      where
-        none : (a : Bool) {b : Bool} → b ≡ false → (a && b) ≡ false
-        none true e = e
-        none false e = refl
+        rw (le-ltb i 2 (omega (arith, b))) (and-false (leb 0 i))
 
 obeys-first-does-not-merge : Merges obeysFirst → ⊥
 obeys-first-does-not-merge merges =

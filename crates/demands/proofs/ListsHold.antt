@@ -1,10 +1,11 @@
 -- Demand 3 holds: RMAP commands are steps on memory that keep to what they refer to, so two lists of them weave; and counting goes in any order.
 use mathlib.Core.Path.{_≡_, refl, sym, _∙_, ap, ap₂}
-use mathlib.Core.Bool.{Bool, true, false, _||_, false≢true, or-true}
+use mathlib.Core.Bool.{Bool, true, false, false≢true, or-true}
 use mathlib.Core.List.{List, [], _∷_}
 use Prim.Native.Nat.{ℕ}
 use lib.ListN.{length, getD}
 use lib.Seq.{ext-getD}
+use Rattle.octets.proofs.PlaceLaws.{either-false}
 use Rattle.unit.specs.Some.{some}
 use Rattle.unit.specs.Counters.{countedFor}
 use Rattle.unit.specs.Act.{withCounters}
@@ -86,11 +87,6 @@ every-merge (fromOne w) a b = (a .0, every-merge w (a .1) b)
 every-merge (fromOther w) a b = (b .0, every-merge w a (b .1))
 
 -- ---- two lists that are apart
-
--- of two tests one holds, or none
-either-false : (a b : Bool) → (a || b) ≡ false → (a ≡ false) × (b ≡ false)
-either-false true b e = absurd (false≢true (sym e))
-either-false false b e = (refl, e)
 
 module _ (s : State) where
   abbrev storesIn : List Sent → ℕ → Bool

@@ -3,7 +3,7 @@ use mathlib.Core.Path.{_≡_, refl, sym, _∙_}
 use mathlib.Core.Bool.{Bool, true, false, cond, _&&_, false≢true}
 use mathlib.Core.Logic.{inl, inr, _↔_}
 use mathlib.Core.List.{List}
-use Prim.Native.Nat.{ℕ, _+_, _-_, _%_, _^_, _<_, _≤_}
+use Prim.Native.Nat.{ℕ, _+_, _%_, _^_, _<_, _≤_}
 use native.Mathlib.Omega.{arith}
 use lib.Dec.{eqb}
 use lib.ListN.{length}
@@ -17,20 +17,20 @@ use Rattle.packets.specs.declared.reading.Refusal.the-variants.{Incomplete, Unk
 use Rattle.unit.specs.Some.{some}
 use Rattle.unit.specs.Fate.{byteOf, fateNumber, fateStatus}
 use Rattle.unit.specs.Clock.{atWrap, fractionSet, afterCode, afterTicks}
-use Rattle.unit.specs.Usable.{usable, usableUnit}
+use Rattle.unit.specs.Usable.{usable}
 use Rattle.unit.specs.Act.{withClock}
-use Rattle.unit.specs.Calls.{isLink, withoutReply, takeCommand, takePacket, smallCall, takeTimeCode, takeTicks}
+use Rattle.unit.specs.Calls.{isLink, takeCommand, takePacket, smallCall, takeTimeCode, takeTicks}
 use Rattle.unit.specs.declared.fate.Status.{Status}
 use Rattle.unit.specs.declared.fate.Status.the-variants.{Success, UnusedCode, WrongKey, DataCrc, EarlyEop, TooMuchData, EndedByEep, VerifyOverrun}
 use Rattle.unit.specs.declared.fate.Status.the-variants.{NotAuthorised, RmwLength, WrongAddress, NotOwner, NoSuchField, ReadOnlyField, PlainDeviceId}
 use Rattle.unit.specs.declared.fate.Fate.{Fate}
-use Rattle.unit.specs.declared.fate.Fate.the-variants.{TimeChanged, Unusable, Unread}
+use Rattle.unit.specs.declared.fate.Fate.the-variants.{Unread}
 use Rattle.unit.specs.declared.clock.Clock.{Clock}
 use Rattle.unit.specs.declared.clock.Waiting.the-variants.{NoValue}
 use Rattle.unit.specs.declared.unit.Unit.{Unit as TheUnit}
 use Rattle.unit.proofs.FateLaws.{unread-number}
 use Rattle.unit.proofs.PlanLaws.{plan-status, roomless-plan}
-use Rattle.unit.proofs.CommandLaws.{packet-is, command-fate}
+use Rattle.unit.proofs.CommandLaws.{packet-is, small-is, command-fate}
 use Rattle.packets.proofs.ReadingLaws.{not-command, one-command}
 use Rattle.demands.specs.Terminal.{ours, IsCommand, pathIn}
 use Rattle.demands.specs.Refusals.{lengthDue, OneTwoThree, SmallRow, ByCode, ByTicks, SmallRows, numbers, statuses, Carries, Listed}
@@ -98,11 +98,8 @@ one-two-three = one-two-three-of
 -- ---- the small calls
 
 small-row : (Moved : Clock → Type 0) (u : TheUnit) (c : Clock) → Moved c → SmallRow Moved u (smallCall u (withClock u c))
-small-row Moved u c moved = go (usableUnit u) refl
-  where
-    go : (t : Bool) → usableUnit u ≡ t → SmallRow Moved u (cond t (withoutReply TimeChanged (withClock u c)) (withoutReply Unusable u))
-    go true e = inr (e, refl, refl, moved, refl)
-    go false e = inl (e, refl, refl, refl)
+small-row Moved u c moved =
+    small-is u (withClock u c) (SmallRow Moved u) (λ e. inl (e, refl, refl, refl)) (λ e. inr (e, refl, refl, moved, refl))
 
 -- always v becomes last
 code-last : (c : Clock) (v : ℕ) → afterCode c v .last ≡ v

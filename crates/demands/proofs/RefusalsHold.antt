@@ -1,6 +1,6 @@
 -- Demand 1, the table of numbers, holds: each of the ways that a packet can go leaves what its row says.
 use mathlib.Core.Path.{_≡_, refl, sym, _∙_, ap}
-use mathlib.Core.Bool.{Bool, true, false, cond, not, _&&_, _||_, false≢true}
+use mathlib.Core.Bool.{Bool, true, false, cond, not, _&&_, _||_, false≢true, and-true, and-false}
 use mathlib.Core.Logic.{inl, inr}
 use mathlib.Core.List.{List, [], _∷_}
 use Prim.Native.Nat.{ℕ, _+_, _-_, _*_, _/_, _%_, _^_, min}
@@ -111,20 +111,11 @@ refused-memory : (h : Header) (s : Status) (p m : List ℕ) → h .protocol ≡ 
     → stored (memoryAction h s (headerSize (h .instruction)) (length p - headerSize (h .instruction))) p m ≡ refusedOn h s p m
 refused-memory h s p m e f g =
     refused-stores (kindIn h) h s p m (headerSize (h .instruction)) (length p - headerSize (h .instruction)) f
-    ∙ rw (eq-eqb (h .protocol) 0x01 e, g, write-bit-is h) (go (writes (kindIn h)) (isVerified (h .instruction)))
-  where
-    go : (w v : Bool) → cond (w && not v) (writtenTo h p m) m ≡ cond (w && not v && true) (writtenTo h p m) m
-    go true true = refl
-    go true false = refl
-    go false v = refl
+    ∙ rw (eq-eqb (h .protocol) 0x01 e, g, write-bit-is h, and-true (writes (kindIn h) && not (isVerified (h .instruction))))
 
 -- refused by its header, or a field command
 header-memory : (h : Header) (s : Status) (p m : List ℕ) → some (eqb (byteOf s)) (4 ∷ 5 ∷ 6 ∷ 7 ∷ []) ≡ false → m ≡ refusedOn h s p m
-header-memory h s p m g = rw g (go (eqb (h .protocol) 0x01 && isWrite (h .instruction) && not (isVerified (h .instruction))))
-  where
-    go : (t : Bool) → m ≡ cond (t && false) (writtenTo h p m) m
-    go true = refl
-    go false = refl
+header-memory h s p m g = rw (g, and-false (eqb (h .protocol) 0x01 && isWrite (h .instruction) && not (isVerified (h .instruction))))
 
 field-memory : (h : Header) (s : Status) (p m : List ℕ) → (h .protocol ≡ 0x01 → ⊥) → m ≡ refusedOn h s p m
 field-memory h s p m e = rw (ne-eqb (h .protocol) 0x01 e)

@@ -1,6 +1,6 @@
 -- Laws of parts and places: how long they are, and which byte stands where.
 use mathlib.Core.Path.{_≡_, refl, sym, ap, _∙_}
-use mathlib.Core.Bool.{Bool, true, false, cond, _&&_, false≢true}
+use mathlib.Core.Bool.{Bool, true, false, cond, _&&_, _||_, false≢true}
 use mathlib.Core.Logic.{_⊎_, inl, inr, ⊎-elim}
 use mathlib.Core.List.{List, [], _∷_, _++_, append-assoc, append-nil}
 use Prim.Native.Nat.{ℕ, suc, _+_, _-_, _<_, _≤_}
@@ -77,6 +77,13 @@ module _ (at : ℕ) (p d : List ℕ) (fits : at + length p ≤ length d) where
   pub length-placed : length (placed at p d) ≡ length d
   length-placed = omega (arith, length-append (take at d ++ p) (drop (at + length p) d), head, length-drop (at + length p) d)
 
+  -- what stands up to its end, and what behind it
+  pub take-placed : take (at + length p) (placed at p d) ≡ take at d ++ p
+  take-placed = take-at (take at d ++ p) (drop (at + length p) d) (at + length p) head
+
+  pub drop-placed : drop (at + length p) (placed at p d) ≡ drop (at + length p) d
+  drop-placed = drop-at (take at d ++ p) (drop (at + length p) d) (at + length p) head
+
   -- what was put can be read back
   pub part-placed : part at (length p) (placed at p d) ≡ p
   part-placed = rw (append-assoc (take at d) p (drop (at + length p) d), drop-at (take at d) (p ++ drop (at + length p) d) at front)
@@ -127,11 +134,11 @@ pub placed-on : (at : ℕ) (p q d : List ℕ) → at + length p + length q ≤ l
     → placed (at + length p) q (placed at p d) ≡ placed at (p ++ q) d
 placed-on at p q d h =
     let n = at + length p in
-    let front : length (take at d ++ p) ≡ n = head at p d (omega arith) in
+    let fits : n ≤ length d = omega arith in
     rw (
-      take-at (take at d ++ p) (drop n d) n front,
-      ← drop-drop (length q) n (take at d ++ p ++ drop n d),
-      drop-at (take at d ++ p) (drop n d) n front,
+      take-placed at p d fits,
+      ← drop-drop (length q) n (placed at p d),
+      drop-placed at p d fits,
       drop-drop (length q) n d,
       length-append p q,
       ← add-assoc at (length p) (length q),
@@ -188,6 +195,10 @@ first-true false b e = e
 pub second-true : (a b : Bool) → (a && b) ≡ true → b ≡ true
 second-true true b e = e
 second-true false b e = absurd (false≢true e)
+
+pub either-false : (a b : Bool) → (a || b) ≡ false → (a ≡ false) × (b ≡ false)
+either-false true b e = absurd (false≢true (sym e))
+either-false false b e = (refl, e)
 
 -- d with p placed where a test lets it, and as it was where not: it keeps its length, and every byte outside p's places
 module _ (at : ℕ) (p d : List ℕ) where

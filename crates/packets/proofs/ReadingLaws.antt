@@ -7,12 +7,14 @@ use Prim.Native.Nat.{ℕ, _+_, _^_, _<_, _≤_}
 use native.Mathlib.Omega.{arith}
 use borrow.Author.Tests.{lt-ltb, le-ltb, le-leb, lt-leb, eq-eqb, ne-eqb, ltb-false, eqb-true, eqb-false}
 use lib.Dec.{eqb, leb, ltb}
-use lib.ListN.{length, getD, take}
+use lib.ListN.{length, getD, take, drop, length-take}
+use Rattle.octets.specs.Places.{part}
 use Rattle.octets.specs.Crc.{crc}
 use Rattle.octets.specs.Numbers.{Digits}
 use Rattle.octets.proofs.NumberLaws.{number-below}
 use Rattle.packets.specs.Instruction.{typeOf, replyAddressSize, headerSize}
 use Rattle.packets.specs.Header.{instructionAt, partsAt}
+use Rattle.packets.specs.Path.{pathOf}
 use Rattle.packets.specs.Reading.{refused, timePacket, command, readCommand, readProtocol, readPacket}
 use Rattle.packets.specs.declared.instruction.Instruction.{Instruction}
 use Rattle.packets.specs.declared.path.Path.{Path}
@@ -22,6 +24,7 @@ use Rattle.packets.specs.declared.reading.Reading.{Reading}
 use Rattle.packets.specs.declared.reading.Reading.the-variants.{Refused, Time, Command}
 use Rattle.packets.specs.declared.reading.Refusal.{Refusal}
 use Rattle.packets.specs.declared.reading.Refusal.the-variants.{Incomplete, UnknownProtocol, ExtendedProtocol, Reply, HeaderCrc}
+use Rattle.packets.proofs.PathLaws.{path-short}
 
 -- ---- the checks of a command, in their order
 
@@ -223,3 +226,41 @@ no-time p n rmap e =
     go : (a : Bool) → rank (cond a (refused Incomplete) (readCommand p) .reading) ≡ 1 → ⊥
     go true t = omega (arith, t)
     go false t = command-no-time p t
+
+-- ---- the path of a packet that was read has at most twelve bytes
+
+abbrev Short : Packet → Type 0
+Short k = k .path .count ≤ 12
+
+either : (t : Bool) (a b : Packet) → Short a → Short b → Short (cond t a b)
+either true a b x y = x
+either false a b x y = y
+
+command-path : (p : List ℕ) → Short (command p)
+command-path p =
+    let n = replyAddressSize (instructionAt p) in
+    path-short (part 4 n p) (omega (arith, length-take n (drop 4 p)))
+
+read-path : (p : List ℕ) → Short (readCommand p)
+unfolding readCommand pathOf
+read-path p =
+    let i = instructionAt p in
+    let whole = cond (eqb (crc (take (headerSize i) p)) 0) (command p) (refused HeaderCrc) in
+    let cut = cond (ltb (length p) (headerSize i)) (refused Incomplete) whole in
+    either (ltb (length p) 3) (refused Incomplete) (cond (eqb (typeOf i) 0) (refused Reply) cut) (omega arith)
+    (either (eqb (typeOf i) 0) (refused Reply) cut (omega arith)
+    (either (ltb (length p) (headerSize i)) (refused Incomplete) whole (omega arith)
+    (either (eqb (crc (take (headerSize i) p)) 0) (command p) (refused HeaderCrc) (command-path p) (omega arith))))
+
+protocol-path : (q : ℕ) (p : List ℕ) (n : ℕ) → Short (readProtocol q p n)
+unfolding readProtocol pathOf
+protocol-path q p n =
+    let time = leb 0xF0 q && leb q 0xFE && eqb q n in
+    let other = cond time timePacket (refused UnknownProtocol) in
+    either (eqb q 0x01 || eqb q 0x03) (readCommand p) (cond (eqb q 0x00) (refused ExtendedProtocol) other) (read-path p)
+    (either (eqb q 0x00) (refused ExtendedProtocol) other (omega arith) (either time timePacket (refused UnknownProtocol) (omega arith) (omega arith)))
+
+pub packet-path : (p : List ℕ) (n : ℕ) → readPacket p n .path .count ≤ 12
+unfolding readPacket pathOf
+packet-path p n =
+    either (ltb (length p) 2) (refused Incomplete) (readProtocol (getD p 1 0) p n) (omega arith) (protocol-path (getD p 1 0) p n)

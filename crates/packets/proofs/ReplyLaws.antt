@@ -91,9 +91,15 @@ head-room false p n room h = omega arith
 
 -- ---- lengths
 
-twice : (t : Bool) (n : ℕ) → cond t (cond t n 0) 0 ≡ cond t n 0
-twice true n = refl
-twice false n = refl
+-- the data that are not carried do not count
+pub same-length : (path : Path) (h : Header) (status n k : ℕ) → (carriesData h status ≡ true → n ≡ k) → replyLength path h status n ≡ replyLength path h status k
+unfolding replyLength
+same-length path h status n k f = go (carriesData h status) refl
+  where
+    go : (t : Bool) → carriesData h status ≡ t
+        → length (pathBytes path) + cond (isWrite (h .instruction)) 8 (13 + cond t n 0) ≡ length (pathBytes path) + cond (isWrite (h .instruction)) 8 (13 + cond t k 0)
+    go true e = rw (f e)
+    go false e = refl
 
 carried-most : (t : Bool) (n : ℕ) → cond t n 0 ≤ n
 carried-most true n = omega arith
@@ -143,13 +149,12 @@ length-replied k h status d out =
 -- ---- the writer: m bytes of data are carried, of n; t is its test of them
 
 module _ (k : Path) (h : Header) (status n m : ℕ) (counts : m ≡ carriedCount h status n) where
-  same-length : replyLength k h status m ≡ replyLength k h status n
-  unfolding replyLength
-  same-length = rw (counts, twice (carriesData h status) n)
+  carried-length : replyLength k h status m ≡ replyLength k h status n
+  carried-length = same-length k h status m n (λ e. rw (counts, e))
 
   module _ (out : List ℕ) {t : Bool} (test : t ≡ (ltb m (256 ^ 3) && leb (replyLength k h status m) (length out))) where
     reply-answer : t ≡ replyFits k h status n (length out)
-    reply-answer = test ∙ rw (same-length, counts)
+    reply-answer = test ∙ rw (carried-length, counts)
 
     pub reply-small : t ≡ true → m < 256 ^ 3
     reply-small e = ltb-true m (256 ^ 3) (first-true (ltb m (256 ^ 3)) (leb (replyLength k h status m) (length out)) (sym test ∙ e))
@@ -158,7 +163,7 @@ module _ (k : Path) (h : Header) (status n m : ℕ) (counts : m ≡ carriedCount
     unfolding replyLength
     reply-room e =
         let r = leb-true (replyLength k h status n) (length out)
-        (second-true (ltb m (256 ^ 3)) (leb (replyLength k h status n) (length out)) (rw same-length at (sym test ∙ e))) in
+        (second-true (ltb m (256 ^ 3)) (leb (replyLength k h status n) (length out)) (rw carried-length at (sym test ∙ e))) in
         rw counts r
 
     pub reply-refused : (d : List ℕ) → length d ≡ n → t ≡ false → (false ≡ replyFits k h status n (length out)) × (out ≡ replied k h status d out)

@@ -1,15 +1,21 @@
 -- Laws of time packets.
-use mathlib.Core.Path.{_≡_, refl}
-use mathlib.Core.Bool.{Bool, true, false, _&&_, _||_}
+use mathlib.Core.Path.{_≡_, refl, ap}
+use mathlib.Core.Bool.{Bool, true, false, cond, _&&_, _||_}
 use mathlib.Core.List.{List}
-use Prim.Native.Nat.{ℕ}
+use Prim.Native.Nat.{ℕ, _^_, _<_}
+use native.Mathlib.Omega.{arith}
 use borrow.Author.Tests.{eqb-true}
 use lib.Dec.{eqb}
 use lib.ListN.{length, getD}
 use Rattle.octets.specs.Crc.{crc}
+use Rattle.octets.specs.Numbers.{Digits}
+use Rattle.octets.proofs.NumberLaws.{number-below}
 use Rattle.packets.specs.Reading.{isEop}
-use Rattle.packets.specs.Time.{isTimePacket}
+use Rattle.packets.specs.Time.{isTimePacket, timeAt, readTime}
 use Rattle.packets.specs.declared.reading.End.{End}
+use Rattle.packets.specs.declared.time.Time.{Time as TheTime}
+use Rattle.packets.specs.declared.time.TimeReading.{TimeReading}
+use Rattle.packets.specs.declared.time.TimeReading.the-variants.{ThrownAway, Taken}
 
 first-of-seven : (a b c d e f g : Bool) → (a && b && c && d && e && f && g) ≡ true → a ≡ true
 first-of-seven true b c d e f g h = refl
@@ -20,3 +26,20 @@ time-twelve p end address n h =
     eqb-true (length p) 12
     (first-of-seven (eqb (length p) 12) (isEop end) (eqb (getD p 0 0) address || eqb (getD p 0 0) 0xFE) (eqb (getD p 1 0) n)
     (eqb (getD p 2 0) 0x9F || eqb (getD p 2 0) 0xAF) (eqb (getD p 3 0) 0x00 || eqb (getD p 3 0) 0x01) (eqb (crc p) 0) h)
+
+-- a time packet of bytes has a T below 2^56
+pub taken-below : (p : List ℕ) (end : End) (logical number : ℕ) (t : TheTime) → Digits 256 p → readTime p end logical number ≡ Taken t → t .value < 2 ^ 56
+unfolding readTime
+taken-below p end logical number t d = go (isTimePacket p end logical number) refl
+  where
+    value-in : TimeReading → ℕ
+    value-in r = elim r [ ThrownAway ↦ 2 ^ 56 | Taken s ↦ s .value ]
+
+    is-taken : TimeReading → ℕ
+    is-taken r = elim r [ ThrownAway ↦ 0 | Taken s ↦ 1 ]
+
+    go : (b : Bool) → isTimePacket p end logical number ≡ b → cond b (Taken (timeAt p)) ThrownAway ≡ Taken t → t .value < 2 ^ 56
+    go true f e =
+        let twelve = time-twelve p end logical number f in
+        rw (ap value-in e) at (number-below p 4 7 d (omega (arith, twelve)))
+    go false f e = absurd (omega (arith, ap is-taken e))

@@ -2,14 +2,15 @@
 use native.Mathlib.Omega.{arith}
 use native.Mathlib.Nat.{zero-add}
 use mathlib.Core.Path.{_≡_, refl, sym, ap, _∙_}
-use mathlib.Core.Bool.{Bool, true, false, cond, _&&_}
+use mathlib.Core.Bool.{Bool, true, false, cond, and-false}
 use mathlib.Core.List.{List, [], _∷_, _++_}
 use Prim.Native.Nat.{ℕ, _+_, _-_, _<_, _≤_}
 use borrow.Author.Tests.{le-leb, leb-true, leb-false, lt-leb}
 use lib.Dec.{eqb, leb}
-use lib.ListN.{length, take, drop, length-take, length-append, length-drop, take-append-drop}
-use lib.Seq.{take-at, drop-at, drop-drop, length-take-le, take-all}
+use lib.ListN.{length, take, drop, length-take, length-drop, take-append-drop}
+use lib.Seq.{drop-drop, length-take-le, take-all}
 use Rattle.octets.specs.Places.{placed}
+use Rattle.octets.proofs.PlaceLaws.{take-placed, drop-placed}
 use Rattle.records.specs.Between.{Says}
 use Rattle.records.specs.Text.{endLine, badLine}
 use Rattle.records.specs.Log.{numberAfter, Held, outcomeOf, lastLine}
@@ -38,18 +39,6 @@ text-length (Line item) s h =
     omega (arith, line-length (numberAfter (h .bench)) (o .answer .fate) (take (o .answer .length) (o .reply)), length-take (o .answer .length) (o .reply), f .1)
 text-length Last s h = omega (arith, last-length s (h .bench))
 text-length Silence s h = omega arith
-
--- ---- text behind text in a buffer
-
-module _ (at : ℕ) (s d : List ℕ) (fits : at + length s ≤ length d) where
-  front : length (take at d ++ s) ≡ at + length s
-  front = length-append (take at d) s ∙ ap (λ (k : ℕ). k + length s) (length-take-le at d (omega arith))
-
-  take-placed : take (at + length s) (placed at s d) ≡ take at d ++ s
-  take-placed = take-at (take at d ++ s) (drop (at + length s) d) (at + length s) front
-
-  drop-placed : drop (at + length s) (placed at s d) ≡ drop (at + length s) d
-  drop-placed = drop-at (take at d ++ s) (drop (at + length s) d) (at + length s) front
 
 -- ---- the loop
 
@@ -126,11 +115,7 @@ module _ (log : List ℕ) (last : Bool) (out₀ : List ℕ) (first : Progress) w
         rw (lt-leb (length (take written out) + longestLine (length (h .reply))) (length out₀) (omega (arith, text-is, full, got .inside, got .long)))
 
     pub stops-silent : (next : Next) → next ≡ nextOf (h .bench .stage) (drop used log) last → isSilence next ≡ true → goesOn log last (length out₀) here ≡ false
-    stops-silent next is e = rw (← is, e) (go (leb (length (take written out) + longestLine (length (h .reply))) (length out₀)))
-      where
-        go : (t : Bool) → (t && false) ≡ false
-        go true = refl
-        go false = refl
+    stops-silent next is e = rw (← is, e) (and-false (leb (length (take written out) + longestLine (length (h .reply))) (length out₀)))
 
     module _ (stops : goesOn log last (length out₀) here ≡ false) where
       done : ran log last (length out₀) first ≡ here

@@ -4,7 +4,7 @@ use mathlib.Core.Path.{_≡_, refl, sym, ap, _∙_}
 use mathlib.Core.Bool.{Bool, true, false, cond, not, false≢true}
 use mathlib.Core.Logic.{_⊎_, inl, inr, ⊎-elim}
 use mathlib.Core.List.{List, [], _∷_, _++_, append-assoc, append-nil}
-use Prim.Native.Nat.{ℕ, _+_, _%_, _^_, _≤_}
+use Prim.Native.Nat.{ℕ, _+_, _≤_}
 use borrow.Author.Tests.{le-leb, not-true, not-false}
 use lib.Dec.{eqb, leb}
 use lib.ListN.{length, take, drop, length-append, length-replicate}
@@ -14,7 +14,7 @@ use Rattle.unit.specs.Fate.{fateNumber, fateStatus}
 use Rattle.unit.specs.declared.fate.Fate.{Fate}
 use Rattle.records.specs.Record.{readRecord, sizeOf}
 use Rattle.records.specs.Text.{decimal, spaced, ended, statusText, replyText, recordLine, heading, endLine, badLine}
-use Rattle.records.specs.Log.{startHeld, numberAfter, Held, outcomeOf, lineFor, lastLine, lines, meaning}
+use Rattle.records.specs.Log.{startHeld, numberAfter, Held, outcomeOf, lineFor, lastLine, lines}
 use Rattle.records.specs.Run.{nextFor, nextOf, isSilence, Progress, leftBy, usedBy, textOf, longestLine, nextIn, goesOn, ran, begun}
 use Rattle.records.specs.Printed.{byStage, toCome, Calls, none, call, PrintsMeaning, OneCall, NoStandstill, CutIsShort}
 use Rattle.records.specs.declared.record.Record.{Record}

@@ -5,19 +5,15 @@ use native.Mathlib.Nat.{lt-of-not-le, zero-add, suc-add}
 use mathlib.Core.Path.{_≡_, refl, sym, ap, subst, _∙_}
 use mathlib.Core.Bool.{Bool, true, false, cond, not, false≢true}
 use mathlib.Core.List.{List}
-use Prim.Native.Nat.{ℕ, zero, suc, _+_, _-_, _/_, _%_, _^_, _<_, _≤_}
+use Prim.Native.Nat.{ℕ, zero, suc, _+_, _-_, _/_, _<_, _≤_}
 use borrow.Author.Tests.{le-leb, lt-leb, not-true}
 use lib.Dec.{leb}
 use lib.ListN.{length, take, drop, length-drop}
 use Rattle.octets.specs.Places.{part}
 use Rattle.octets.proofs.PlaceLaws.{second-true}
-use Rattle.unit.specs.Usable.{usableUnit}
-use Rattle.unit.specs.Clock.{afterCode, afterTicks}
-use Rattle.unit.specs.Act.{withClock}
-use Rattle.unit.specs.Calls.{Outcome, withoutReply, takeTimeCode, takeTicks}
-use Rattle.unit.specs.declared.fate.Fate.the-variants.{TimeChanged, Unusable}
+use Rattle.unit.specs.Calls.{Outcome}
 use Rattle.unit.specs.declared.unit.Unit.{Unit as TheUnit}
-use Rattle.unit.proofs.CallLaws.{packet-length, reply-fits}
+use Rattle.unit.proofs.CallLaws.{packet-length, reply-fits, code-length, ticks-length}
 use Rattle.unit.specs.declared.calls.Answer.{Answer}
 use Rattle.records.specs.Between.{Put, Says, Fits}
 use Rattle.records.specs.Record.{readRecord, sizeOf}
@@ -44,26 +40,14 @@ half-room room reply h = go (decLe reply ((room - 67) / 2))
 
 -- ---- a call
 
-small-fits : (t : Bool) (u v : TheUnit) (n : ℕ) → cond t (withoutReply TimeChanged v) (withoutReply Unusable u) .length ≤ n
-small-fits true u v n = omega arith
-small-fits false u v n = omega arith
-
-code-fits : (u : TheUnit) (byte n : ℕ) → takeTimeCode u byte .length ≤ n
-unfolding takeTimeCode
-code-fits u byte n = small-fits (usableUnit u) u (withClock u (afterCode (u .clock) (byte % 2 ^ 6))) n
-
-ticks-fit : (u : TheUnit) (count n : ℕ) → takeTicks u count .length ≤ n
-unfolding takeTicks
-ticks-fit u count n = small-fits (usableUnit u) u (withClock u (afterTicks (u .clock) count)) n
-
 -- its reply stands in its buffer, which keeps its length
 pub call-fits : (item : Item) (s : List ℕ) (u : TheUnit) (m r : List ℕ)
     → (called item s u m r .answer .length ≤ length (called item s u m r .reply)) × (length (called item s u m r .reply) ≡ length r)
 call-fits (Packet end link size) s u m r =
     let long = packet-length u (part 7 size s) end link m r .1 in
     (omega (arith, long, reply-fits u (part 7 size s) end link m r), long)
-call-fits (TimeCode byte) s u m r = (code-fits u byte (length r), refl)
-call-fits (Ticks count) s u m r = (ticks-fit u count (length r), refl)
+call-fits (TimeCode byte) s u m r = (omega (arith, code-length u byte), refl)
+call-fits (Ticks count) s u m r = (omega (arith, ticks-length u count), refl)
 
 -- an outcome by its parts
 pub outcome-is : (o : Outcome) (a : Answer) (m r : List ℕ) → a ≡ o .answer → m ≡ o .memory → r ≡ o .reply

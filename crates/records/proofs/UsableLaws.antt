@@ -1,22 +1,18 @@
 -- The bench's unit is usable before the first record and after every one, so Time-Codes and ticks print fate 0, status - and reply 0.
 use mathlib.Core.Path.{_≡_, refl}
-use mathlib.Core.Bool.{Bool, true, false, cond}
+use mathlib.Core.Bool.{true}
 use mathlib.Core.List.{List, []}
-use Prim.Native.Nat.{ℕ, _+_, _%_, _^_}
+use Prim.Native.Nat.{ℕ}
 use lib.ListN.{length}
 use Rattle.octets.specs.Numbers.{Digits}
 use Rattle.octets.specs.Places.{part}
 use Rattle.octets.proofs.NumberLaws.{digits-part}
 use Rattle.packets.specs.Path.{pathOf, orOneZero, withoutLeadingZeros}
-use Rattle.unit.specs.Clock.{afterCode, afterTicks}
-use Rattle.unit.specs.Act.{withClock}
 use Rattle.unit.specs.Usable.{usableUnit, usable}
-use Rattle.unit.specs.Calls.{withoutReply, takeTimeCode, takeTicks}
-use Rattle.unit.specs.declared.fate.Fate.the-variants.{TimeChanged, Unusable}
-use Rattle.unit.specs.declared.clock.Clock.{Clock}
-use Rattle.unit.specs.declared.unit.Unit.{Unit as TheUnit}
+use Rattle.unit.specs.Calls.{takeTimeCode, takeTicks}
+use Rattle.unit.specs.declared.fate.Fate.the-variants.{TimeChanged}
 use Rattle.unit.proofs.CallLaws.{packet-length}
-use Rattle.unit.proofs.UsableLaws.{with-memory, alone, usable-packet, usable-code, usable-ticks}
+use Rattle.unit.proofs.UsableLaws.{alone, usable-packet, code-with-memory, ticks-with-memory}
 use Rattle.records.specs.Text.{recordLine}
 use Rattle.records.specs.Log.{numberAfter, benchUnit, Held, outcomeOf, lineFor, heldAfter}
 use Rattle.records.specs.Record.{sizeOf}
@@ -27,19 +23,6 @@ pub start-usable : usable benchUnit 4096 ≡ true
 unfolding usable usableUnit pathOf orOneZero withoutLeadingZeros
 start-usable = refl
 
--- a Time-Code and ticks change the clock alone
-small-windows : (t : Bool) (u : TheUnit) (c : Clock) → cond t (withoutReply TimeChanged (withClock u c)) (withoutReply Unusable u) .unit .windows ≡ u .windows
-small-windows true u c = refl
-small-windows false u c = refl
-
-code-windows : (u : TheUnit) (byte : ℕ) → takeTimeCode u byte .unit .windows ≡ u .windows
-unfolding takeTimeCode
-code-windows u byte = small-windows (usableUnit u) u (afterCode (u .clock) (byte % 2 ^ 6))
-
-ticks-windows : (u : TheUnit) (count : ℕ) → takeTicks u count .unit .windows ≡ u .windows
-unfolding takeTicks
-ticks-windows u count = small-windows (usableUnit u) u (afterTicks (u .clock) count)
-
 -- usable with the memory that is held
 abbrev pub Works : Held → Type 0
 Works h = usable (h .bench .unit) (length (h .memory)) ≡ true
@@ -49,14 +32,8 @@ stays-usable (Packet end link size) s h d e =
     let u = h .bench .unit in
     let p = part 7 size s in
     rw (packet-length u p end link (h .memory) (h .reply) .0) (usable-packet u p end link (h .memory) (h .reply) (digits-part s 7 size d) e)
-stays-usable (TimeCode byte) s h d e =
-    let u = h .bench .unit in
-    let n = length (h .memory) in
-    with-memory u (takeTimeCode u byte .unit) n e (code-windows u byte) (usable-code u byte (alone u n e))
-stays-usable (Ticks count) s h d e =
-    let u = h .bench .unit in
-    let n = length (h .memory) in
-    with-memory u (takeTicks u count .unit) n e (ticks-windows u count) (usable-ticks u count (alone u n e))
+stays-usable (TimeCode byte) s h d e = code-with-memory (h .bench .unit) (length (h .memory)) byte e
+stays-usable (Ticks count) s h d e = ticks-with-memory (h .bench .unit) (length (h .memory)) count e
 
 -- the line of a Time-Code, and of ticks: fate 0, no status, no reply
 abbrev smallLine : Held → List ℕ

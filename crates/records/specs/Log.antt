@@ -1,6 +1,6 @@
 -- What a log means: the text that the bench prints of it (document 01, 'Bench program').
 use mathlib.Core.Bool.{true, false, cond}
-use mathlib.Core.List.{List, [], _∷_, _++_}
+use mathlib.Core.List.{List, _∷_, _++_}
 use Prim.Native.Nat.{ℕ, zero, suc, _+_, _%_, _^_}
 use lib.Dec.{eqb}
 use lib.ListN.{length, take, drop, replicate}

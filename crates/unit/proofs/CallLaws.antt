@@ -2,7 +2,7 @@
 use mathlib.Core.Path.{_≡_, refl}
 use mathlib.Core.Bool.{Bool, true, false, cond}
 use mathlib.Core.List.{List}
-use Prim.Native.Nat.{ℕ, _≤_}
+use Prim.Native.Nat.{ℕ, _%_, _^_, _≤_}
 use native.Mathlib.Omega.{arith}
 use lib.ListN.{length, drop}
 use Rattle.packets.specs.Instruction.{headerSize}
@@ -14,16 +14,18 @@ use Rattle.packets.specs.declared.reading.End.{End}
 use Rattle.packets.proofs.ReadingLaws.{header-whole}
 use Rattle.packets.proofs.ReplyLaws.{length-replied}
 use Rattle.unit.specs.Fate.{isSuccess, fateNumber}
+use Rattle.unit.specs.Clock.{afterCode, afterTicks}
+use Rattle.unit.specs.Act.{withClock}
 use Rattle.unit.specs.Decide.{headerStatus, wantedCount, dataStatus}
 use Rattle.unit.specs.Plan.{unansweredFate}
-use Rattle.unit.specs.Calls.{Outcome, withoutReply, leaving, takeCommand, takePacket}
+use Rattle.unit.specs.Calls.{Outcome, withoutReply, leaving, takeCommand, takePacket, takeTimeCode, takeTicks}
 use Rattle.unit.specs.declared.fate.Status.{Status}
 use Rattle.unit.specs.declared.fate.Fate.the-variants.{NotObeyed, Obeyed, Replied}
 use Rattle.unit.specs.declared.unit.Unit.{Unit as TheUnit}
 use Rattle.unit.proofs.FateLaws.{unread-number}
 use Rattle.unit.proofs.PlanLaws.{plan-fits}
 use Rattle.unit.proofs.MemoryLaws.{memory-length}
-use Rattle.unit.proofs.CommandLaws.{packets-are, packet-is, commands-are, command-is}
+use Rattle.unit.proofs.CommandLaws.{packets-are, packet-is, small-is, commands-are, command-is}
 
 -- a command without a reply has a number above 3
 silent-high : (s : Status) → fateNumber (unansweredFate s) ≤ 3 → ⊥
@@ -83,3 +85,12 @@ module _ (u : TheUnit) (p : List ℕ) (end : End) (link : ℕ) where
       packets-are u p end link m n r l Same (λ e. (refl, refl)) (λ e f. (refl, refl)) (λ e f why g. (refl, refl)) (λ e f g w. (refl, refl)) (λ e f g t w. (refl, refl))
       (λ e f h g. commands-are u h path p end link m n r Same (refl, refl) (λ a. (λ w. (refl, refl), λ w. (refl, refl)))
       (λ q a. (λ w. (refl, refl), λ w. (refl, refl))) (λ q a. (λ w. (refl, refl), λ w. (refl, refl))))
+
+-- a small call has no reply
+pub code-length : (u : TheUnit) (byte : ℕ) → takeTimeCode u byte .length ≡ 0
+unfolding takeTimeCode
+code-length u byte = small-is u (withClock u (afterCode (u .clock) (byte % 2 ^ 6))) (λ a. a .length ≡ 0) (λ e. refl) (λ e. refl)
+
+pub ticks-length : (u : TheUnit) (ticks : ℕ) → takeTicks u ticks .length ≡ 0
+unfolding takeTicks
+ticks-length u ticks = small-is u (withClock u (afterTicks (u .clock) ticks)) (λ a. a .length ≡ 0) (λ e. refl) (λ e. refl)

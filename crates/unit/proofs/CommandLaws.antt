@@ -28,14 +28,14 @@ use Rattle.unit.specs.Counters.{countedFor}
 use Rattle.unit.specs.Clock.{afterTime, timeCodeWritten}
 use Rattle.unit.specs.Owner.{swapped}
 use Rattle.unit.specs.Fields.{rowOf, timeCodeCounter, divider, dividerWritten}
-use Rattle.unit.specs.Usable.{usable}
+use Rattle.unit.specs.Usable.{usableUnit, usable}
 use Rattle.unit.specs.Decide.{kindIn, headerStatus, wantedCount, dataStatus}
 use Rattle.unit.specs.Plan.{actionOf, memoryAction, fieldActionOf, fieldAction, unansweredFate, replyCount, plannedFor}
 use Rattle.unit.specs.Act.{stored, dataFor, repliedTo, withOwner, withFields, withClock, fieldWritten, changed, countedUnit}
-use Rattle.unit.specs.Calls.{Outcome, withoutReply, leaving, acted, takeTime, takeCommand, takeReading, isLink, takePacket}
+use Rattle.unit.specs.Calls.{Outcome, withoutReply, leaving, acted, takeTime, takeCommand, takeReading, isLink, takePacket, smallCall}
 use Rattle.unit.specs.declared.fate.Status.{Status}
 use Rattle.unit.specs.declared.fate.Fate.{Fate}
-use Rattle.unit.specs.declared.fate.Fate.the-variants.{Unusable, NoSuchLink, NoRoom, Unread, TimeThrownAway, NotObeyed, Obeyed, TimeTaken, Replied}
+use Rattle.unit.specs.declared.fate.Fate.the-variants.{TimeChanged, Unusable, NoSuchLink, NoRoom, Unread, TimeThrownAway, NotObeyed, Obeyed, TimeTaken, Replied}
 use Rattle.unit.specs.declared.calls.Answer.{Answer}
 use Rattle.unit.specs.declared.decide.Action.{Action}
 use Rattle.unit.specs.declared.decide.Action.the-variants.{Nothing}
@@ -103,6 +103,16 @@ module _ (u : TheUnit) (p : List ℕ) (end : End) (link : ℕ) where
         → Q (takePacket u p end link m r)
     packet-is one two refused away taken command =
         packets-are m m r refl (λ o o′. Q o) one two refused (λ e f g w. away e f g) (λ e f g t w. taken e f g t) command
+
+-- ---- a small call: 1, or 0 and another unit
+
+pub small-is : (u v : TheUnit) (Q : Answer → Type 0) → (usableUnit u ≡ false → Q (withoutReply Unusable u)) → (usableUnit u ≡ true → Q (withoutReply TimeChanged v))
+    → Q (smallCall u v)
+small-is u v Q one zero = go (usableUnit u) refl
+  where
+    go : (t : Bool) → usableUnit u ≡ t → Q (cond t (withoutReply TimeChanged v) (withoutReply Unusable u))
+    go true e = zero e
+    go false e = one e
 
 -- ---- a memory action changes nothing of the unit
 

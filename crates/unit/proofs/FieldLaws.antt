@@ -12,10 +12,10 @@ use native.Mathlib.Omega.{arith}
 use native.Mathlib.Numerals.{add-one}
 use native.Mathlib.Nat.{add-zero}
 use lib.ListN.{length, getD, take, drop, drop-of-length-le, length-append}
-use lib.Seq.{drop-cons, take-at, take-length, length-take-le}
+use lib.Seq.{drop-cons, take-length}
 use Rattle.octets.specs.Places.{part, placed, copied}
 use Rattle.octets.specs.Numbers.{bytesOf}
-use Rattle.octets.proofs.PlaceLaws.{copied-done, first-true, second-true}
+use Rattle.octets.proofs.PlaceLaws.{take-placed, copied-done, first-true, second-true}
 use Rattle.octets.proofs.Tabulate.{at}
 use Rattle.packets.specs.declared.instruction.Kind.{Kind}
 use Rattle.packets.specs.declared.instruction.Kind.the-variants.{Unused, Read, ReadModifyWrite, Write}
@@ -91,10 +91,9 @@ bytes-next v l out {word} {then} i h room e f g =
     let whole : part 0 4 word ≡ word = ap (λ (k : ℕ). take k word) (sym four) ∙ take-length word in
     let p : then ≡ placed (4 * i) word out =
     g ∙ copied-done word 0 4 out (4 * i) (omega (arith, four)) room ∙ ap (λ (w : List ℕ). placed (4 * i) w out) whole in
-    let n : length (take (4 * i) out ++ word) ≡ 4 * (i + 1) =
-    omega (arith, length-append (take (4 * i) out) word, length-take-le (4 * i) out (omega arith), four) in
-    ap (take (4 * (i + 1))) p
-    ∙ take-at (take (4 * i) out ++ word) (drop (4 * i + length word) out) (4 * (i + 1)) n
+    let n : 4 * (i + 1) ≡ 4 * i + length word = omega (arith, four) in
+    ap (take (4 * (i + 1))) p ∙ ap (λ (k : ℕ). take k (placed (4 * i) word out)) n
+    ∙ take-placed (4 * i) word out (omega (arith, four, room))
     ∙ rw (e, f, add-one) (sym (bytes-more v l i h))
 
 -- ---- an obeyed write names one field: the two that are written are no neighbours

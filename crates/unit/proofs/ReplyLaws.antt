@@ -2,22 +2,21 @@
 use mathlib.Core.Path.{_≡_, refl, sym, _∙_}
 use mathlib.Core.Bool.{Bool, true, false, cond, not, _&&_, _||_, false≢true}
 use mathlib.Core.List.{List}
-use Prim.Native.Nat.{ℕ, _+_, _-_, _/_, _%_, _^_, _<_, _≤_}
+use Prim.Native.Nat.{ℕ, _-_, _/_, _%_, _^_, _<_, _≤_}
 use native.Mathlib.Omega.{arith}
 use borrow.Author.Tests.{lt-ltb, le-leb, eqb-true, eq-eqb, not-true}
 use lib.Dec.{eqb, leb}
 use lib.ListN.{length, drop, getD, length-replicate}
 use Rattle.octets.specs.Places.{placed}
-use Rattle.octets.proofs.PlaceLaws.{length-part, first-true, second-true}
+use Rattle.octets.proofs.PlaceLaws.{length-part, first-true, second-true, either-false}
 use Rattle.packets.specs.Instruction.{typeOf, isWrite, isIncrementing, headerSize}
-use Rattle.packets.specs.Path.{pathBytes}
 use Rattle.packets.specs.Reply.{carriesData, carriedCount, replyOf, replyLength, replied}
 use Rattle.packets.specs.declared.instruction.Kind.{Kind}
 use Rattle.packets.specs.declared.instruction.Kind.the-variants.{Unused, Read, ReadModifyWrite, Write}
 use Rattle.packets.specs.declared.header.Header.{Header}
 use Rattle.packets.specs.declared.path.Path.{Path}
 use Rattle.packets.specs.declared.reading.End.{End}
-use Rattle.packets.proofs.ReplyLaws.{length-reply}
+use Rattle.packets.proofs.ReplyLaws.{same-length, length-reply}
 use Rattle.unit.specs.Fate.{byteOf, isSuccess, fateNumber}
 use Rattle.unit.specs.Usable.{usable}
 use Rattle.unit.specs.Fields.{named, valuesOf}
@@ -45,11 +44,7 @@ unfolding openingStatus
 used-code h key logical s =
     let other = not (eqb (typeOf (h .instruction)) 1) in
     let rest = cond (not (eqb (h .key) key)) WrongKey (cond (not (eqb (h .target) logical) && not (eqb (h .target) 0xFE)) WrongAddress Success) in
-    second other (isUnused (kindIn h)) (passed (other || isUnused (kindIn h)) UnusedCode rest refl s .0)
-  where
-    second : (a b : Bool) → (a || b) ≡ false → b ≡ false
-    second true b e = absurd (false≢true (sym e))
-    second false b e = e
+    either-false other (isUnused (kindIn h)) (passed (other || isUnused (kindIn h)) UnusedCode rest refl s .0) .1
 
 pub accepted-code : (u : TheUnit) (h : Header) (path : Path) (link : ℕ) → isSuccess (headerStatus u h path link) ≡ true → isUnused (kindIn h) ≡ false
 unfolding headerStatus
@@ -90,16 +85,6 @@ module _ (u : TheUnit) (h : Header) (link : ℕ) (m : List ℕ) where
   field-count Write p from l used w = absurd (w refl)
 
 -- ---- the plan's length
-
--- the data that are not carried do not count
-same-length : (path : Path) (h : Header) (status n k : ℕ) → (carriesData h status ≡ true → n ≡ k) → replyLength path h status n ≡ replyLength path h status k
-unfolding replyLength
-same-length path h status n k f = go (carriesData h status) refl
-  where
-    go : (t : Bool) → carriesData h status ≡ t
-        → length (pathBytes path) + cond (isWrite (h .instruction)) 8 (13 + cond t n 0) ≡ length (pathBytes path) + cond (isWrite (h .instruction)) 8 (13 + cond t k 0)
-    go true e = rw (f e)
-    go false e = refl
 
 carries-passed : (h : Header) (s : Status) → carriesData h (byteOf s) ≡ true → (isWrite (h .instruction) ≡ false) × (isSuccess s ≡ true)
 carries-passed h s e =

@@ -1,33 +1,23 @@
 -- A usable unit is usable after any call.
-use mathlib.Core.Path.{_≡_, refl, ap}
-use mathlib.Core.Bool.{Bool, true, false, cond, not, _&&_, _||_, false≢true}
+use mathlib.Core.Path.{_≡_, refl}
+use mathlib.Core.Bool.{Bool, true, false, cond, not, _&&_, false≢true}
 use mathlib.Core.List.{List}
 use Prim.Native.Nat.{ℕ, _+_, _*_, _%_, _^_, _<_, _≤_}
 use native.Mathlib.Omega.{arith}
 use borrow.Author.Tests.{lt-ltb, le-leb, leb-true, ltb-true}
 use lib.Dec.{eqb, leb, ltb}
-use lib.ListN.{length, getD, drop, take, length-take}
-use Rattle.octets.specs.Places.{part}
+use lib.ListN.{length}
 use Rattle.octets.specs.Numbers.{Digits}
 use Rattle.octets.proofs.PlaceLaws.{first-true, second-true}
-use Rattle.octets.proofs.NumberLaws.{number-below}
-use Rattle.packets.specs.Instruction.{typeOf, replyAddressSize, headerSize}
-use Rattle.octets.specs.Crc.{crc}
-use Rattle.packets.specs.declared.reading.Refusal.the-variants.{Incomplete, UnknownProtocol, ExtendedProtocol, Reply, HeaderCrc}
-use Rattle.packets.specs.Header.{instructionAt}
 use Rattle.packets.specs.Path.{pathOf}
-use Rattle.packets.specs.Reading.{refused, timePacket, command, readCommand, readProtocol, readPacket}
-use Rattle.packets.specs.Time.{isTimePacket, timeAt, readTime}
+use Rattle.packets.specs.Reading.{readPacket}
 use Rattle.packets.specs.declared.path.Path.{Path}
 use Rattle.packets.specs.declared.reading.End.{End}
-use Rattle.packets.specs.declared.reading.Packet.{Packet}
 use Rattle.packets.specs.declared.time.When.{When}
 use Rattle.packets.specs.declared.time.When.the-variants.{AtWrap, AtOnce}
 use Rattle.packets.specs.declared.time.Time.{Time as TheTime}
-use Rattle.packets.specs.declared.time.TimeReading.{TimeReading}
-use Rattle.packets.specs.declared.time.TimeReading.the-variants.{ThrownAway, Taken}
-use Rattle.packets.proofs.PathLaws.{path-short}
-use Rattle.packets.proofs.TimeLaws.{time-twelve}
+use Rattle.packets.proofs.ReadingLaws.{packet-path}
+use Rattle.packets.proofs.TimeLaws.{taken-below}
 use Rattle.unit.specs.Some.{some}
 use Rattle.unit.specs.Windows.{meets, used}
 use Rattle.unit.specs.Usable.{fitsTime, usableUnit, usable}
@@ -155,48 +145,10 @@ after-swap o new expected initiator path link p l k = go (eqb (o .device) expect
     go true false true = (refl, refl)
     go true false false = k
 
--- ---- the path of a packet that was read has at most twelve bytes
-
-abbrev Short : Packet → Type 0
-Short k = k .path .count ≤ 12
-
-either : (t : Bool) (a b : Packet) → Short a → Short b → Short (cond t a b)
-either true a b x y = x
-either false a b x y = y
-
-command-short : (p : List ℕ) → Short (command p)
-command-short p =
-    let n = replyAddressSize (instructionAt p) in
-    path-short (part 4 n p) (omega (arith, length-take n (drop 4 p)))
-
-read-short : (p : List ℕ) → Short (readCommand p)
-unfolding readCommand pathOf
-read-short p =
-    let i = instructionAt p in
-    let whole = cond (eqb (crc (take (headerSize i) p)) 0) (command p) (refused HeaderCrc) in
-    let cut = cond (ltb (length p) (headerSize i)) (refused Incomplete) whole in
-    either (ltb (length p) 3) (refused Incomplete) (cond (eqb (typeOf i) 0) (refused Reply) cut) (omega arith)
-    (either (eqb (typeOf i) 0) (refused Reply) cut (omega arith)
-    (either (ltb (length p) (headerSize i)) (refused Incomplete) whole (omega arith)
-    (either (eqb (crc (take (headerSize i) p)) 0) (command p) (refused HeaderCrc) (command-short p) (omega arith))))
-
-protocol-short : (q : ℕ) (p : List ℕ) (n : ℕ) → Short (readProtocol q p n)
-unfolding readProtocol pathOf
-protocol-short q p n =
-    let time = leb 0xF0 q && leb q 0xFE && eqb q n in
-    let other = cond time timePacket (refused UnknownProtocol) in
-    either (eqb q 0x01 || eqb q 0x03) (readCommand p) (cond (eqb q 0x00) (refused ExtendedProtocol) other) (read-short p)
-    (either (eqb q 0x00) (refused ExtendedProtocol) other (omega arith) (either time timePacket (refused UnknownProtocol) (omega arith) (omega arith)))
-
-packet-short : (p : List ℕ) (n : ℕ) → Short (readPacket p n)
-unfolding readPacket pathOf
-packet-short p n =
-    either (ltb (length p) 2) (refused Incomplete) (readProtocol (getD p 1 0) p n) (omega arith) (protocol-short (getD p 1 0) p n)
-
 -- ---- the calls
 
 -- usable with the same memory, where the windows are the same
-pub with-memory : (u v : TheUnit) (n : ℕ) → usable u n ≡ true → v .windows ≡ u .windows → usableUnit v ≡ true → usable v n ≡ true
+with-memory : (u v : TheUnit) (n : ℕ) → usable u n ≡ true → v .windows ≡ u .windows → usableUnit v ≡ true → usable v n ≡ true
 unfolding usable
 with-memory u v n e w k =
     rw (k, w, first-true (leb 1 n && leb n 65536 && not (some (meets (EndsPast n)) (used (u .windows)))) (usableUnit u) e)
@@ -204,23 +156,6 @@ with-memory u v n e w k =
 pub alone : (u : TheUnit) (n : ℕ) → usable u n ≡ true → usableUnit u ≡ true
 unfolding usable
 alone u n e = second-true (leb 1 n && leb n 65536 && not (some (meets (EndsPast n)) (used (u .windows)))) (usableUnit u) e
-
--- a time packet of bytes has a T below 2^56
-taken-below : (p : List ℕ) (end : End) (logical number : ℕ) (t : TheTime) → Digits 256 p → readTime p end logical number ≡ Taken t → t .value < 2 ^ 56
-unfolding readTime
-taken-below p end logical number t d = go (isTimePacket p end logical number) refl
-  where
-    value-in : TimeReading → ℕ
-    value-in r = elim r [ ThrownAway ↦ 2 ^ 56 | Taken s ↦ s .value ]
-
-    is-taken : TimeReading → ℕ
-    is-taken r = elim r [ ThrownAway ↦ 0 | Taken s ↦ 1 ]
-
-    go : (b : Bool) → isTimePacket p end logical number ≡ b → cond b (Taken (timeAt p)) ThrownAway ≡ Taken t → t .value < 2 ^ 56
-    go true f e =
-        let twelve = time-twelve p end logical number f in
-        rw (ap value-in e) at (number-below p 4 7 d (omega (arith, twelve)))
-    go false f e = absurd (omega (arith, ap is-taken e))
 
 -- any packet of bytes
 pub usable-packet : (u : TheUnit) (p : List ℕ) (end : End) (link : ℕ) (m r : List ℕ) → Digits 256 p → usable u (length m) ≡ true
@@ -232,7 +167,7 @@ usable-packet u p end link m r d e =
     with-memory u (withClock u c) (length m) e refl (with-clock u c k (after-time (u .clock) t (taken-below p end (u .logical) (u .number) t d g) (clock-works u k))))
     (λ w there h g q a. (
       λ x new expected. let o = swapped (u .owner) new expected (h .initiator) path link in
-          with-memory u (withOwner u o) (length m) e refl (with-owner u o k (after-swap (u .owner) new expected (h .initiator) path link (packet-short p (u .number)) (low there) (owner-works u k))),
+          with-memory u (withOwner u o) (length m) e refl (with-owner u o k (after-swap (u .owner) new expected (h .initiator) path link (packet-path p (u .number)) (low there) (owner-works u k))),
       λ x word. (
         with-memory u (withClock u (timeCodeWritten (u .clock) word)) (length m) e refl
             (with-clock u (timeCodeWritten (u .clock) word) k (code-written (u .clock) word (clock-works u k))),
@@ -260,3 +195,12 @@ usable-code u byte e = rw e (with-clock u (afterCode (u .clock) (byte % 2 ^ 6)) 
 pub usable-ticks : (u : TheUnit) (ticks : ℕ) → usableUnit u ≡ true → usableUnit (takeTicks u ticks .unit) ≡ true
 unfolding takeTicks
 usable-ticks u ticks e = rw e (with-clock u (afterTicks (u .clock) ticks) e (after-ticks (u .clock) ticks (clock-works u e)))
+
+-- and with the same memory
+pub code-with-memory : (u : TheUnit) (n byte : ℕ) → usable u n ≡ true → usable (takeTimeCode u byte .unit) n ≡ true
+unfolding takeTimeCode
+code-with-memory u n byte e = let k = alone u n e in with-memory u (takeTimeCode u byte .unit) n e (rw k) (usable-code u byte k)
+
+pub ticks-with-memory : (u : TheUnit) (n ticks : ℕ) → usable u n ≡ true → usable (takeTicks u ticks .unit) n ≡ true
+unfolding takeTicks
+ticks-with-memory u n ticks e = let k = alone u n e in with-memory u (takeTicks u ticks .unit) n e (rw k) (usable-ticks u ticks k)

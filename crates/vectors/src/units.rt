@@ -4,7 +4,6 @@ use crate::lines;
 use crate::show;
 use crate::text;
 use packets::End;
-use packets::Path;
 use unit::Answer;
 use unit::Clock;
 use unit::Elapsed;
@@ -15,7 +14,6 @@ use unit::Told;
 use unit::Unit;
 use unit::Waiting;
 use unit::Window;
-use unit::Windows;
 
 // The unit as the last line left it, and how much of memory is lent to it.
 pub(crate) struct State {
@@ -25,53 +23,11 @@ pub(crate) struct State {
 
 // The unit of document 01's bench, but with a memory of `size` bytes and one window over all of it.
 pub(crate) fn fresh(size: usize) -> State {
-    let none = Window {
-        start: 0,
-        end: 0,
-        read: false,
-        write: false,
-    };
-    let mut table = [none; 16];
-    table[0] = Window {
-        start: 0,
-        end: size,
-        read: true,
-        write: true,
-    };
-    let owner = Owner {
-        device: 0,
-        initiator: 0,
-        path: Path::none(),
-        link: 0,
-    };
-    let clock = Clock {
-        last: 0,
-        elapsed: Elapsed { value: 0, epoch: 0 },
-        waiting: Waiting::NoValue,
-    };
-    let fields = Fields {
-        vendor: 0,
-        version: 0,
-        status: 0,
-        active: 0,
-        information: 0,
-        maker: 0,
-        serial: 0,
-        base: 0,
-        range: 0,
-        divider: 0,
-    };
-    let unit = Unit {
-        logical: 0x43,
-        key: 0x2A,
-        number: 0xF0,
-        links: 4,
-        windows: Windows { table, count: 1 },
-        fields,
-        owner,
-        clock,
-        counters: [0u32; 11],
-    };
+    let bench = records::start();
+    let mut unit = bench.unit;
+    let mut windows = unit.windows;
+    windows.table[0].end = size;
+    unit.windows = windows;
     State { unit, size }
 }
 
