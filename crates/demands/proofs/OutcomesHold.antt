@@ -1,7 +1,7 @@
 -- Outcomes are determined: no function has a `requires`, and each promise is an equation for the result, and one for each lent buffer.
 use mathlib.Core.Path.{sym, _∙_}
-use Rattle.demands.specs.Outcomes.{OctetsDetermined, PacketsDetermined, UnitDetermined, RecordsDetermined}
-use Rattle.demands.specs.Outcomes.{OctetsAskNothing, PacketsAskNothing, UnitAsksNothing, RecordsAskNothing}
+use Rattle.demands.specs.Outcomes.{OctetsDetermined, PacketsDetermined, UnitDetermined, RecordsDetermined, TerminalDetermined}
+use Rattle.demands.specs.Outcomes.{OctetsAskNothing, PacketsAskNothing, UnitAsksNothing, RecordsAskNothing, TerminalAsksNothing}
 
 pub octets-determined : OctetsDetermined
 octets-determined = (
@@ -78,6 +78,9 @@ records-determined = (
   λ κs a z z′ e e′ p q. p .1 .1 .1 .1 ∙ sym (q .1 .1 .1 .1),
 )
 
+pub terminal-determined : TerminalDetermined
+terminal-determined = λ κs a z z′ e e′ p q. p ∙ sym q
+
 pub octets-ask-nothing : OctetsAskNothing
 octets-ask-nothing = (λ κs a. tt, λ κs a. tt, λ κs a. tt, λ κs a. tt, λ κs a. tt, λ κs a. tt, λ κs a. tt, λ κs a. tt, λ κs a. tt, λ κs a. tt, λ κs a. tt, λ κs a. tt, λ κs a. tt, λ κs a. tt, λ κs a. tt)
 
@@ -89,3 +92,6 @@ unit-asks-nothing = (λ κs a. tt, λ κs a. tt, λ κs a. tt, λ κs a. tt, λ 
 
 pub records-ask-nothing : RecordsAskNothing
 records-ask-nothing = (λ κs a. tt, λ κs a. tt, λ κs a. tt, λ κs a. tt, λ κs a. tt)
+
+pub terminal-asks-nothing : TerminalAsksNothing
+terminal-asks-nothing = λ κs a. tt

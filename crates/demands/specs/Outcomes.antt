@@ -52,6 +52,7 @@ use Rattle.records.proofs.read_record.Reads.{Asked as «asked·read_record», L
 use Rattle.records.proofs.bench.Stage.is_over.Reads.{Asked as asked·Stage·is_over, Learnt as promise·Stage·is_over}
 use Rattle.records.proofs.start.Reads.{Asked as asked·start, Learnt as promise·start}
 use Rattle.records.proofs.run.Reads.{Asked as asked·run, Learnt as promise·run}
+use Rattle.terminal.proofs.terminal_crc.Reads.{Asked as asked·terminal_crc, Learnt as promise·terminal_crc}
 
 -- What a function asks and promises, as the checker makes it of the function's own `requires` and `ensures`: a claim on lifetimes and arguments; and one on
 -- lifetimes, arguments, result, and what each argument is at exit. That none is left out here the gate looks up (tools/promises).
@@ -141,6 +142,9 @@ RecordsDetermined =
     × (OneExit promise·run (λ κs e. now (e .1 .1 .1 .1 .0)))
     × (OneExit promise·run (λ κs e. now (e .1 .1 .1 .1 .1 .0)))
 
+abbrev pub TerminalDetermined : Type 0
+TerminalDetermined = (OneResult promise·terminal_crc)
+
 abbrev pub OctetsAskNothing : Type 0
 OctetsAskNothing =
     AsksNothing asked·crc_of
@@ -200,3 +204,7 @@ RecordsAskNothing =
     × AsksNothing asked·Stage·is_over
     × AsksNothing asked·start
     × AsksNothing asked·run
+
+abbrev pub TerminalAsksNothing : Type 0
+TerminalAsksNothing =
+    AsksNothing asked·terminal_crc
