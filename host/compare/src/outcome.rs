@@ -1,0 +1,232 @@
+//! What can come of a packet, a Time-Code, ticks or a bad record, and what came of those that ran.
+//!
+//! The outcome of a packet is its protocol and kind, as its bytes show them, with the fate and the status that were printed.
+//! `of_bench` and `of_units` say from document 01 which there are; what a run reaches has to be all of them, and no other.
+use std::collections::BTreeSet;
+use std::fmt;
+use stories::Flaw;
+
+#[derive(Clone, Copy, Debug, PartialEq, Eq, PartialOrd, Ord)]
+pub enum Outcome {
+    Packet(Protocol, Kind, u8, Option<u8>),
+    TimeCode(u8),
+    Ticks(u8),
+    /// With the kind of the record, where the flaw goes with one, else 0.
+    Bad(Flaw, u8),
+}
+
+#[derive(Clone, Copy, Debug, PartialEq, Eq, PartialOrd, Ord)]
+pub enum Protocol {
+    /// Under two bytes.
+    None,
+    Extended,
+    Rmap,
+    PlugAndPlay,
+    /// A number that the time protocol may have: F0 to FE.
+    Time,
+    Unknown,
+}
+
+#[derive(Clone, Copy, Debug, PartialEq, Eq, PartialOrd, Ord)]
+pub enum Kind {
+    /// No instruction is there, or the protocol has none.
+    None,
+    Reply,
+    UnusedType,
+    /// A command with this code, bits 5 to 2 of the instruction.
+    Code(u8),
+}
+
+/// Fate and status, the second and the third word of the line that is printed of a call.
+fn told(line: &str) -> Option<(u8, Option<u8>)> {
+    let mut words = line.split(' ').skip(1);
+    let fate = words.next()?.parse().ok()?;
+    match words.next()? {
+        "-" => Some((fate, None)),
+        digits => Some((fate, Some(u8::from_str_radix(digits, 16).ok()?))),
+    }
+}
+
+impl Outcome {
+    pub fn packet(packet: &[u8], line: &str) -> Option<Self> {
+        told(line).map(|(fate, status)| Outcome::Packet(protocol(packet), kind(packet), fate, status))
+    }
+
+    pub fn time_code(line: &str) -> Option<Self> {
+        told(line).map(|(fate, _)| Outcome::TimeCode(fate))
+    }
+
+    pub fn ticks(line: &str) -> Option<Self> {
+        told(line).map(|(fate, _)| Outcome::Ticks(fate))
+    }
+
+    pub fn bad(flaw: Flaw, record: &[u8], line: &str) -> Option<Self> {
+        line.strip_prefix("bad ")?;
+        let kind = match flaw {
+            Flaw::Mark | Flaw::Kind | Flaw::CutHead => 0,
+            Flaw::Link | Flaw::End | Flaw::Length | Flaw::CutBody => *record.get(2)?,
+        };
+        Some(Outcome::Bad(flaw, kind))
+    }
+}
+
+fn protocol(packet: &[u8]) -> Protocol {
+    match packet {
+        [] | [_] => Protocol::None,
+        [_, 0x00, ..] => Protocol::Extended,
+        [_, 0x01, ..] => Protocol::Rmap,
+        [_, 0x03, ..] => Protocol::PlugAndPlay,
+        [_, 0xF0..=0xFE, ..] => Protocol::Time,
+        _ => Protocol::Unknown,
+    }
+}
+
+fn kind(packet: &[u8]) -> Kind {
+    match (protocol(packet), packet) {
+        (Protocol::Rmap | Protocol::PlugAndPlay, [_, _, instruction, ..]) => match instruction >> 6 {
+            0 => Kind::Reply,
+            1 => Kind::Code(instruction >> 2 & 15),
+            _ => Kind::UnusedType,
+        },
+        _ => Kind::None,
+    }
+}
+
+/// The packets that have no code, and the fates without a status that they can have in any unit. Fate 2, a link that the unit does
+/// not have, is one of every packet's.
+const WITHOUT_STATUS: [(Protocol, Kind, &[u8]); 10] = [
+    (Protocol::None, Kind::None, &[2, 11]),
+    (Protocol::Extended, Kind::None, &[2, 13]),
+    (Protocol::Unknown, Kind::None, &[2, 12]),
+    (Protocol::Time, Kind::None, &[2, 12, 16, 19]),
+    (Protocol::Rmap, Kind::None, &[2, 11]),
+    (Protocol::Rmap, Kind::Reply, &[2, 14]),
+    (Protocol::Rmap, Kind::UnusedType, &[2, 11, 15]),
+    (Protocol::PlugAndPlay, Kind::None, &[2, 11]),
+    (Protocol::PlugAndPlay, Kind::Reply, &[2, 14]),
+    (Protocol::PlugAndPlay, Kind::UnusedType, &[2, 11, 15]),
+];
+
+/// What packets come to, whatever the unit: the fates without a status, then those with one.
+fn of_packets() -> BTreeSet<Outcome> {
+    let mut all = BTreeSet::new();
+    for (protocol, kind, fates) in WITHOUT_STATUS {
+        all.extend(fates.iter().map(|fate| Outcome::Packet(protocol, kind, *fate, None)));
+    }
+    for protocol in [Protocol::Rmap, Protocol::PlugAndPlay] {
+        all.extend([17, 20].map(|fate| Outcome::Packet(protocol, Kind::UnusedType, fate, Some(2))));
+        for code in 0..16 {
+            all.extend([2, 11, 15].map(|fate| Outcome::Packet(protocol, Kind::Code(code), fate, None)));
+            all.extend(statuses(protocol, code).iter().map(|status| {
+                let fate = match (wants_reply(code), status) {
+                    (true, _) => 20,
+                    (false, 0) => 18,
+                    (false, _) => 17,
+                };
+                Outcome::Packet(protocol, Kind::Code(code), fate, Some(*status))
+            }));
+        }
+    }
+    all
+}
+
+fn wants_reply(code: u8) -> bool {
+    code & 0b0010 != 0
+}
+
+/// All outcomes at the bench. Its unit can always be used, its one window is all of memory with both rights, and only a read
+/// from a single address can ask for more than the reply buffer holds.
+pub fn of_bench() -> BTreeSet<Outcome> {
+    let mut all = of_packets();
+    all.insert(Outcome::Packet(Protocol::Rmap, Kind::Code(0b0010), 3, None));
+    all.extend([Outcome::TimeCode(0), Outcome::Ticks(0)]);
+    all.extend([Flaw::Mark, Flaw::Kind, Flaw::CutHead].map(|flaw| Outcome::Bad(flaw, 0)));
+    // A packet may have any link.
+    all.extend([2, 3].map(|kind| Outcome::Bad(Flaw::Link, kind)));
+    for flaw in [Flaw::End, Flaw::Length, Flaw::CutBody] {
+        all.extend([1, 2, 3].map(|kind| Outcome::Bad(flaw, kind)));
+    }
+    all
+}
+
+/// All outcomes of units of every kind: any call may find its unit unusable, and any reply its buffer too short.
+pub fn of_units() -> BTreeSet<Outcome> {
+    let mut all = of_packets();
+    all.extend([0, 1].map(Outcome::TimeCode));
+    all.extend([0, 1].map(Outcome::Ticks));
+    all.extend(WITHOUT_STATUS.map(|(protocol, kind, _)| Outcome::Packet(protocol, kind, 1, None)));
+    for protocol in [Protocol::Rmap, Protocol::PlugAndPlay] {
+        all.insert(Outcome::Packet(protocol, Kind::UnusedType, 3, None));
+        all.extend((0..16).map(|code| Outcome::Packet(protocol, Kind::Code(code), 1, None)));
+        let replying = (0..16).filter(|code| wants_reply(*code));
+        all.extend(replying.map(|code| Outcome::Packet(protocol, Kind::Code(code), 3, None)));
+    }
+    all
+}
+
+/// The statuses of a command (document 01, 'Reading a packet' and 'Fields').
+fn statuses(protocol: Protocol, code: u8) -> &'static [u8] {
+    match (protocol, code) {
+        // A read wants no data, so that none can be missing or have a wrong CRC.
+        (Protocol::Rmap, 0b0010 | 0b0011) => &[0, 3, 12, 10, 7, 6],
+        (Protocol::Rmap, 0b0111) => &[0, 3, 12, 11, 10, 7, 5, 6, 4],
+        (Protocol::Rmap, 0b1000..=0b1011) => &[0, 3, 12, 10, 7, 5, 6, 4],
+        (Protocol::Rmap, 0b1100..=0b1111) => &[0, 3, 12, 10, 9, 7, 5, 6, 4],
+        (Protocol::PlugAndPlay, 0b0011) => &[0, 3, 12, 10, 0xF1, 7, 6],
+        (Protocol::PlugAndPlay, 0b0111) => &[0, 3, 12, 10, 0xF1, 0xF2, 0xF0, 7, 5, 6, 4],
+        (Protocol::PlugAndPlay, 0b1111) => &[0, 3, 12, 10, 0xF1, 0xF2, 0xF3, 0xF0, 7, 5, 6, 4],
+        // Codes that RMAP uses and fields do not take.
+        (Protocol::PlugAndPlay, 0b0010 | 0b1000..=0b1110) => &[3, 12, 10],
+        _ => &[2],
+    }
+}
+
+impl fmt::Display for Outcome {
+    fn fmt(&self, f: &mut fmt::Formatter<'_>) -> fmt::Result {
+        match self {
+            Outcome::Packet(protocol, kind, fate, status) => {
+                write!(f, "{protocol:?}, ")?;
+                match kind {
+                    Kind::Code(code) => write!(f, "code {code:04b}")?,
+                    other => write!(f, "{other:?}")?,
+                }
+                write!(f, ", fate {fate}")?;
+                status.map_or(Ok(()), |status| write!(f, ", status {status:02x}"))
+            }
+            other => write!(f, "{other:?}"),
+        }
+    }
+}
+
+#[cfg(test)]
+mod tests {
+    use super::*;
+
+    /// Counted by hand, code by code. RMAP: no instruction 2, replies 2, unused types 5, five unused codes with 4 each, the reads 9
+    /// each, read-modify-write 12, four writes with 11 each, four verified writes with 12 each: 151. Plug-and-play: 2, 2, 5, 20, reads
+    /// 6 and 10, read-modify-write 14, the seven other writes with 6 each, the one that fields take 15: 116. No protocol, extended and
+    /// unknown 2 each, time 4.
+    const PACKETS: usize = 151 + 116 + 10;
+
+    /// A reply too long, a Time-Code, ticks; three flaws of any record, one of two kinds, and three of each kind.
+    #[test]
+    fn of_bench_as_counted_by_hand() {
+        assert_eq!(of_bench().len(), PACKETS + 1 + 2 + 3 + 2 + 9);
+    }
+
+    /// Unusable: four without an instruction, and for each of two protocols three without a code and sixteen with one. A reply too long:
+    /// for each, an unused type and the eight codes that want one. Time-Code and ticks, taken or not.
+    #[test]
+    fn of_units_as_counted_by_hand() {
+        assert_eq!(of_units().len(), PACKETS + 4 + 2 * 19 + 2 * 9 + 4);
+    }
+
+    #[test]
+    fn a_line_is_read() {
+        let read = Outcome::packet(&[0xFE, 3, 0x4C, 0], "7 20 f1 13 00");
+        assert_eq!(read, Some(Outcome::Packet(Protocol::PlugAndPlay, Kind::Code(3), 20, Some(0xF1))));
+        let short = Outcome::packet(&[0xFE], "packet: 11 - 0 buffer 00:");
+        assert_eq!(short, Some(Outcome::Packet(Protocol::None, Kind::None, 11, None)));
+        assert_eq!(Outcome::packet(&[], "bad 7"), None);
+    }
+}

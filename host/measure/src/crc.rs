@@ -1,0 +1,86 @@
+//! Three ways to the same CRC: the terminal's own, proved and compiled by its toolchain; the same loop in Rust; and a table in Rust.
+use crate::ROUNDS;
+use crate::count::instructions;
+use crate::spread::Spread;
+use std::env;
+use std::error::Error;
+use std::hint::black_box;
+use std::time::Instant;
+
+unsafe extern "C" {
+    /// A Rattle slice is a pointer and a length.
+    fn terminal_crc(bytes: *const u8, length: usize) -> u8;
+}
+
+pub type Crc = fn(&[u8]) -> u8;
+
+pub const WAYS: [(&str, Crc); 3] = [("terminal", terminal), ("the same loop", bit_by_bit), ("table", model::crc)];
+
+/// Bytes in a row: a header, a block of data, the longest row of a packet at the bench.
+const SIZES: [usize; 3] = [16, 256, 4096];
+/// Bytes that go through each way in a round.
+const ROUND: usize = 1 << 22;
+
+fn terminal(bytes: &[u8]) -> u8 {
+    // SAFETY: the function reads these bytes and nothing else, keeps nothing, and asks nothing of its caller.
+    unsafe { terminal_crc(bytes.as_ptr(), bytes.len()) }
+}
+
+/// As `octets::crc_of` goes: each byte in eight turns.
+fn bit_by_bit(bytes: &[u8]) -> u8 {
+    bytes.iter().fold(0, |crc, byte| (0..8).fold(crc ^ byte, |c, _| (c >> 1) ^ ((c & 1) * 0b1110_0000)))
+}
+
+/// The CRC of a row of this size, so many times.
+pub fn repeated(crc: Crc, size: usize, times: usize) -> u8 {
+    let row: Vec<u8> = (0..size).map(|n| n as u8).collect();
+    (0..times).fold(0, |all, _| all ^ crc(black_box(&row)))
+}
+
+pub fn table() -> Result<(), Box<dyn Error>> {
+    println!("| CRC of | way | ns a byte | terminal's time to this one's | instructions a byte |");
+    println!("|---|---|---|---|---|");
+    for size in SIZES {
+        let mut times = WAYS.map(|_| Vec::new());
+        for _ in 0..ROUNDS {
+            for ((_, way), times) in WAYS.iter().zip(&mut times) {
+                let start = Instant::now();
+                black_box(repeated(*way, size, ROUND / size));
+                times.push(start.elapsed().as_secs_f64());
+            }
+        }
+        for (at, (name, _)) in WAYS.iter().enumerate() {
+            let each = Spread::of(times[at].iter().map(|time| time * 1e9 / ROUND as f64));
+            let ratio = Spread::of(times[0].iter().zip(&times[at]).map(|(ours, its)| ours / its));
+            println!("| {size} bytes | {name} | {each} | {ratio} | {:.2} |", instructions_a_byte(at, size)?);
+        }
+    }
+    println!();
+    Ok(())
+}
+
+/// What a thousand more rows cost, so that starting and ending do not count.
+fn instructions_a_byte(way: usize, size: usize) -> Result<f64, Box<dyn Error>> {
+    let this = env::current_exe()?;
+    let count =
+        |times: usize| instructions(&this, &["crc".into(), way.to_string(), size.to_string(), times.to_string()], None);
+    Ok((count(1001)? - count(1)?) as f64 / (1000 * size) as f64)
+}
+
+#[cfg(test)]
+mod tests {
+    use super::*;
+
+    #[test]
+    fn all_ways_lead_to_the_same() {
+        // Document 01's cases, by every way.
+        for (name, crc) in WAYS {
+            assert_eq!((crc(&[]), crc(&[0x01]), crc(&[0x80])), (0, 0x91, 0xE0), "{name}");
+        }
+        let mut bytes = Vec::new();
+        for n in 0..2000u32 {
+            bytes.push((n.wrapping_mul(2_654_435_761) >> 13) as u8);
+            assert_eq!((terminal(&bytes), bit_by_bit(&bytes)), (model::crc(&bytes), model::crc(&bytes)), "{n}");
+        }
+    }
+}

@@ -1,0 +1,26 @@
+//! A second implementation of the remote terminal of document 01, written from the papers alone.
+//!
+//! One unit answers RMAP and plug-and-play commands and keeps the time. Each packet is first
+//! decided upon and only then acted on, so that a reply that does not fit (result 3) leaves
+//! everything as it was.
+
+#![forbid(unsafe_code)]
+
+mod answer;
+pub mod bench;
+mod crc;
+mod fields;
+mod instruction;
+mod packet;
+mod rmap;
+mod time;
+mod unit;
+
+pub use answer::{Answer, End, fate, status};
+pub use crc::crc;
+pub use fields::Fields;
+pub use instruction::{Instruction, Kind};
+pub use packet::{Command, Path};
+pub use rmap::Window;
+pub use time::Time;
+pub use unit::{Counters, Owner, Unit};

@@ -1,0 +1,14 @@
+//! The papers' rules, each as a case with its expected bytes worked out by hand.
+
+mod bench;
+mod build;
+mod crc;
+mod fields;
+mod hand;
+mod numbers;
+mod owner;
+mod patterns;
+mod rmap;
+mod slips;
+mod time;
+mod total;
