@@ -21,14 +21,14 @@ use Rattle.unit.specs.Decide.{openingStatus, spanSize, isAuthorised, spanStatus
 use Rattle.unit.specs.Plan.{replyCount, plannedFor, decidedByData, decided}
 use Rattle.unit.specs.Act.{stored, dataFor, repliedTo, changed}
 use Rattle.unit.specs.Calls.{Outcome, takeCommand, takePacket}
-use Rattle.unit.specs.declared.fate.Told.{Told}
-use Rattle.unit.specs.declared.fate.Told.the-variants.{Nothing, Byte}
+use Rattle.unit.specs.declared.fate.Told.the-variants.{Byte}
 use Rattle.demands.proofs.Witnesses.{unit, memory, buffer, write-0, write-4, read-past}
 use Rattle.demands.specs.Terminal.{Call, packet, after, fatesOf}
 use Rattle.demands.specs.Meaning.{ByteByByte}
 use Rattle.demands.specs.Lists.{one, other, neither, fromOne, fromOther, Sent, State, heard, ends, refers, isStore, stores, Clear, Apart, Merge, Side, Merges}
 use Rattle.demands.specs.Counts.{countOf, countOfAll, Counting, counted, CountersAreHistory}
 use Rattle.demands.specs.Impostors.{refusesAll, doesNothing, repliesZero, obeysFirst, inventsCounters, ImpostorsShutOut, ThreeAloneLetsBy}
+use Rattle.demands.proofs.NamesHold.{byte-in}
 
 abbrev x : Sent
 x = record { packet = write-0; end = Eop; link = 1; buffer = buffer }
@@ -74,9 +74,6 @@ replies-zero-shut-out meets =
     let e = ap (λ (o : Outcome). fateStatus (o .answer .fate)) (meets .0 (unit 0) read-past Eop 1 memory buffer) in
     let f : Byte 0 ≡ Byte 10 = sym (computed .4) ∙ e ∙ computed .3 in
     omega (arith, ap byte-in f)
-  where
-    byte-in : Told → ℕ
-    byte-in t = elim t [ Nothing ↦ 0 | Byte b ↦ b ]
 
 does-nothing-shut-out : ByteByByte doesNothing → ⊥
 does-nothing-shut-out meets =

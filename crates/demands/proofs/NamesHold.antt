@@ -83,7 +83,7 @@ names-missing h n = some-missing (h .address) (fieldCount (kindIn h) (h .length)
 
 -- ---- status 0
 
-abbrev byte-in : Told → ℕ
+abbrev pub byte-in : Told → ℕ
 byte-in t = elim t [ Nothing ↦ 1 | Byte b ↦ b ]
 
 -- what a header refused, or what has no status, has not status 0

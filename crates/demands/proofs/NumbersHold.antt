@@ -1,9 +1,9 @@
 -- Demand 1, which number is given, holds: 1, 2 and 3 exactly where they are due, the small calls, and the list of numbers and statuses.
 use mathlib.Core.Path.{_≡_, refl, sym, _∙_}
-use mathlib.Core.Bool.{Bool, true, false, cond, _&&_, false≢true}
+use mathlib.Core.Bool.{true, false, false≢true}
 use mathlib.Core.Logic.{inl, inr, _↔_}
 use mathlib.Core.List.{List}
-use Prim.Native.Nat.{ℕ, _+_, _%_, _^_, _<_, _≤_}
+use Prim.Native.Nat.{ℕ, _%_, _^_, _<_, _≤_}
 use native.Mathlib.Omega.{arith}
 use lib.Dec.{eqb}
 use lib.ListN.{length}
@@ -16,7 +16,7 @@ use Rattle.packets.specs.declared.reading.Refusal.{Refusal}
 use Rattle.packets.specs.declared.reading.Refusal.the-variants.{Incomplete, UnknownProtocol, ExtendedProtocol, Reply, HeaderCrc}
 use Rattle.unit.specs.Some.{some}
 use Rattle.unit.specs.Fate.{byteOf, fateNumber, fateStatus}
-use Rattle.unit.specs.Clock.{atWrap, fractionSet, afterCode, afterTicks}
+use Rattle.unit.specs.Clock.{afterCode, afterTicks}
 use Rattle.unit.specs.Usable.{usable}
 use Rattle.unit.specs.Act.{withClock}
 use Rattle.unit.specs.Calls.{isLink, takeCommand, takePacket, smallCall, takeTimeCode, takeTicks}
@@ -26,11 +26,11 @@ use Rattle.unit.specs.declared.fate.Status.the-variants.{NotAuthorised, RmwLeng
 use Rattle.unit.specs.declared.fate.Fate.{Fate}
 use Rattle.unit.specs.declared.fate.Fate.the-variants.{Unread}
 use Rattle.unit.specs.declared.clock.Clock.{Clock}
-use Rattle.unit.specs.declared.clock.Waiting.the-variants.{NoValue}
 use Rattle.unit.specs.declared.unit.Unit.{Unit as TheUnit}
 use Rattle.unit.proofs.FateLaws.{unread-number}
 use Rattle.unit.proofs.PlanLaws.{plan-status, roomless-plan}
 use Rattle.unit.proofs.CommandLaws.{packet-is, small-is, command-fate}
+use Rattle.unit.proofs.UsableLaws.{code-is}
 use Rattle.packets.proofs.ReadingLaws.{not-command, one-command}
 use Rattle.demands.specs.Terminal.{ours, IsCommand, pathIn}
 use Rattle.demands.specs.Refusals.{lengthDue, OneTwoThree, SmallRow, ByCode, ByTicks, SmallRows, numbers, statuses, Carries, Listed}
@@ -103,16 +103,7 @@ small-row Moved u c moved =
 
 -- always v becomes last
 code-last : (c : Clock) (v : ℕ) → afterCode c v .last ≡ v
-unfolding afterCode
-code-last c v = go (eqb (c .last) 63 && eqb v 0)
-  where
-    Last : Clock → Type 0
-    Last k = k .last ≡ v
-
-    go : (t : Bool) → Last (cond t (record { last = v; elapsed = atWrap (c .elapsed) (c .waiting); waiting = NoValue })
-        (record { last = v; elapsed = cond (eqb v (c .last + 1)) (fractionSet (c .elapsed) v) (c .elapsed); waiting = c .waiting }))
-    go true = refl
-    go false = refl
+code-last c v = code-is c v (λ k. k .last ≡ v) refl refl refl
 
 pub small-rows : SmallRows ours
 unfolding takeTimeCode takeTicks afterTicks

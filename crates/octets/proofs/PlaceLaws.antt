@@ -18,13 +18,17 @@ use Rattle.octets.specs.Places.{within, part, placed, copyFits, copied, 
 
 -- ---- places that are there
 
+-- two tests that hold and fail together have one answer
+pub same-test : (a b c d : ℕ) → (a ≤ b → c ≤ d) → (b < a → d < c) → leb a b ≡ leb c d
+same-test a b c d holds fails = go (decLe a b)
+  where
+    go : Dec (a ≤ b) → leb a b ≡ leb c d
+    go (yes k) = le-leb a b k ∙ sym (le-leb c d (holds k))
+    go (no k) = let l : b < a = lt-of-not-le k in lt-leb a b l ∙ sym (lt-leb c d (fails l))
+
 -- the rest from `at` on is long enough exactly if all the places are there
 pub within-rest : (at count n : ℕ) → at ≤ n → leb count (n - at) ≡ leb (at + count) n
-within-rest at count n h = go (decLe count (n - at))
-  where
-    go : Dec (count ≤ n - at) → leb count (n - at) ≡ leb (at + count) n
-    go (yes k) = le-leb _ _ k ∙ sym (le-leb (at + count) n (omega arith))
-    go (no k) = let l : n - at < count = lt-of-not-le k in lt-leb _ _ l ∙ sym (lt-leb (at + count) n (omega arith))
+within-rest at count n h = same-test count (n - at) (at + count) n (λ k. omega (arith, k, h)) (λ l. omega (arith, l, h))
 
 -- ---- a part
 

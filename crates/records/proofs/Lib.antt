@@ -1,5 +1,6 @@
 pub mod RecordLaws
 pub mod TextLaws
+pub mod Turns
 pub mod RunLaws
 pub mod LoopLaws
 pub mod LogLaws

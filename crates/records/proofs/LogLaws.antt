@@ -1,9 +1,8 @@
 -- What a log means, record by record; and what comes first of it, whatever bytes come behind.
 use native.Mathlib.Omega.{arith}
-use native.Mathlib.Nat.{zero-add, suc-add}
 use mathlib.Core.Path.{_≡_, refl, ap, _∙_}
 use mathlib.Core.List.{List, [], _++_, append-nil}
-use Prim.Native.Nat.{ℕ, zero, suc, _+_, _-_, _≤_}
+use Prim.Native.Nat.{ℕ, zero, suc, _≤_}
 use borrow.Author.Tests.{ne-eqb}
 use lib.ListN.{length, drop, length-drop, length-append}
 use lib.Seq.{drop-append-le}
@@ -17,6 +16,7 @@ use Rattle.records.specs.declared.record.Record.{Record}
 use Rattle.records.specs.declared.record.Record.the-variants.{Whole, Wrong, Cut}
 use Rattle.records.specs.declared.bench.Stage.{Stage}
 use Rattle.records.proofs.RecordLaws.{whole-fits, wrong-long, more-part, record-more}
+use Rattle.records.proofs.Turns.{enough-turns}
 
 -- ---- turns to spare make no difference
 
@@ -43,14 +43,8 @@ spare (suc k) s h l = go (readRecord s) (whole-fits s) (λ item g. spare k (drop
     go Wrong f more = refl
     go Cut f more = refl
 
-spares : (j : ℕ) (s : List ℕ) (h : Held) → linesIn (j + length s) s h ≡ linesIn (length s) s h
-spares zero s h = rw (zero-add (length s))
-spares (suc j) s h = rw (suc-add j (length s)) (spare (j + length s) s h (omega arith) ∙ spares j s h)
-
 enough : (k : ℕ) (s : List ℕ) (h : Held) → length s ≤ k → linesIn k s h ≡ linesIn (length s) s h
-enough k s h l =
-    let e : k ≡ (k - length s) + length s = omega arith in
-    ap (λ (n : ℕ). linesIn n s h) e ∙ spares (k - length s) s h
+enough k s h l = enough-turns (λ n. linesIn n s h) (length s) (λ k l. spare k s h l) k l
 
 -- ---- a log, record by record: these two are all that `lines` says
 

@@ -1,7 +1,7 @@
 -- Laws of records: how long a right one is, that a whole one is all there, and that what comes behind a record changes nothing of it.
 use native.Mathlib.Omega.{arith}
-use mathlib.Core.Path.{_≡_, refl, ap, _∙_}
-use mathlib.Core.Bool.{Bool, true, false, cond, not, _&&_, _||_}
+use mathlib.Core.Path.{_≡_, refl, sym, ap, _∙_}
+use mathlib.Core.Bool.{Bool, true, false, cond, not, _&&_, _||_, or-false}
 use mathlib.Core.List.{List, _++_}
 use Prim.Native.Nat.{ℕ, _+_, _<_, _≤_}
 use borrow.Author.Tests.{leb-true, eqb-true, eqb-false, ne-eqb, ltb-true, ltb-false, le-ltb}
@@ -17,10 +17,6 @@ use Rattle.records.specs.declared.record.Item.the-variants.{Packet, Time
 use Rattle.records.specs.declared.record.Record.{Record}
 use Rattle.records.specs.declared.record.Record.the-variants.{Whole, Wrong, Cut}
 
-left : (a : Bool) → (a || false) ≡ true → a ≡ true
-left true e = refl
-left false e = e
-
 -- a Time-Code has a body of one byte, ticks have one of four
 module _ (s : List ℕ) (head : isHead s ≡ true) where
   fits-kind : isRight (getD s 2 0) (getD s 3 0) (getD s 4 0) (bodySize s) ≡ true
@@ -30,7 +26,7 @@ module _ (s : List ℕ) (head : isHead s ≡ true) where
   code-body two =
       eqb-true (bodySize s) 1
       (second-true (eqb (getD s 3 0) 0 && eqb (getD s 4 0) 0) (eqb (bodySize s) 1)
-      (left (eqb (getD s 3 0) 0 && eqb (getD s 4 0) 0 && eqb (bodySize s) 1) (rw two at fits-kind)))
+      (sym (or-false (eqb (getD s 3 0) 0 && eqb (getD s 4 0) 0 && eqb (bodySize s) 1)) ∙ (rw two at fits-kind)))
 
   pub ticks-body : (getD s 2 0 ≡ 1 → ⊥) → (getD s 2 0 ≡ 2 → ⊥) → bodySize s ≡ 4
   ticks-body one two =
@@ -46,7 +42,7 @@ module _ (s : List ℕ) (head : isHead s ≡ true) where
       go true b e f =
           leb-true (bodySize s) 4096
           (second-true (leb (getD s 4 0) 1) (leb (bodySize s) 4096)
-          (left (leb (getD s 4 0) 1 && leb (bodySize s) 4096) (left ((leb (getD s 4 0) 1 && leb (bodySize s) 4096) || false) (rw (eqb-true (getD s 2 0) 1 e) at fits-kind))))
+          (sym (or-false (leb (getD s 4 0) 1 && leb (bodySize s) 4096)) ∙ sym (or-false ((leb (getD s 4 0) 1 && leb (bodySize s) 4096) || false)) ∙ (rw (eqb-true (getD s 2 0) 1 e) at fits-kind)))
       go false true e f = let n = code-body (eqb-true (getD s 2 0) 2 f) in omega arith
       go false false e f = let n = ticks-body (eqb-false (getD s 2 0) 1 e) (eqb-false (getD s 2 0) 2 f) in omega arith
 

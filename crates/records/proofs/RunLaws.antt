@@ -1,16 +1,14 @@
 -- Laws of a run: how much room there is, and what a call does by one step after the other.
 use native.Mathlib.Omega.{arith}
-use native.Mathlib.Decide.{decLe}
-use native.Mathlib.Nat.{lt-of-not-le, zero-add, suc-add}
 use mathlib.Core.Path.{_≡_, refl, sym, ap, subst, _∙_}
 use mathlib.Core.Bool.{Bool, true, false, cond, not, false≢true}
 use mathlib.Core.List.{List}
 use Prim.Native.Nat.{ℕ, zero, suc, _+_, _-_, _/_, _<_, _≤_}
-use borrow.Author.Tests.{le-leb, lt-leb, not-true}
+use borrow.Author.Tests.{not-true}
 use lib.Dec.{leb}
 use lib.ListN.{length, take, drop, length-drop}
 use Rattle.octets.specs.Places.{part}
-use Rattle.octets.proofs.PlaceLaws.{second-true}
+use Rattle.octets.proofs.PlaceLaws.{same-test, second-true}
 use Rattle.unit.specs.Calls.{Outcome}
 use Rattle.unit.specs.declared.unit.Unit.{Unit as TheUnit}
 use Rattle.unit.proofs.CallLaws.{packet-length, reply-fits, code-length, ticks-length}
@@ -30,13 +28,11 @@ use Rattle.records.specs.declared.log.Next.the-variants.{Heading, Line, 
 use Rattle.records.specs.declared.record.Record.{Record}
 use Rattle.records.specs.declared.record.Record.the-variants.{Whole, Wrong, Cut}
 use Rattle.records.proofs.RecordLaws.{whole-fits}
+use Rattle.records.proofs.Turns.{enough-turns}
 
 pub half-room : (room reply : ℕ) → 67 ≤ room → leb reply ((room - 67) / 2) ≡ leb (longestLine reply) room
-half-room room reply h = go (decLe reply ((room - 67) / 2))
-  where
-    go : Dec (reply ≤ (room - 67) / 2) → leb reply ((room - 67) / 2) ≡ leb (longestLine reply) room
-    go (yes k) = le-leb _ _ k ∙ sym (le-leb (longestLine reply) room (omega arith))
-    go (no k) = let l : (room - 67) / 2 < reply = lt-of-not-le k in lt-leb _ _ l ∙ sym (lt-leb (longestLine reply) room (omega arith))
+half-room room reply h =
+    same-test reply ((room - 67) / 2) (longestLine reply) room (λ k. omega (arith, k, h)) (λ l. omega (arith, l, h))
 
 -- ---- a call
 
@@ -150,10 +146,6 @@ module _ (log : List ℕ) (last : Bool) (room : ℕ) where
       go true e more = more e
       go false e more = refl
 
-  spares : (j : ℕ) (p : Progress) → p .used ≤ length log → ranIn (j + stepsLeft log p) log last room p ≡ ranIn (stepsLeft log p) log last room p
-  spares zero p u = rw (zero-add (stepsLeft log p))
-  spares (suc j) p u = rw (suc-add j (stepsLeft log p)) (spare (j + stepsLeft log p) p u (omega arith) ∙ spares j p u)
-
   pub ran-next : (p : Progress) → p .used ≤ length log → goesOn log last room p ≡ true → ran log last room p ≡ ran log last room (further p)
   unfolding ran
   ran-next p u e = go (stepsLeft log p) refl
@@ -162,8 +154,8 @@ module _ (log : List ℕ) (last : Bool) (room : ℕ) where
       go zero f = let g = falls p u e in absurd (omega (arith, g .1, f))
       go (suc n) f =
           let g = falls p u e in
-          let h : n ≡ (n - stepsLeft log (further p)) + stepsLeft log (further p) = omega (arith, g .1, f) in
-          rw e (ap (λ (k : ℕ). ranIn k log last room (further p)) h ∙ spares (n - stepsLeft log (further p)) (further p) (g .0))
+          rw e
+          (enough-turns (λ k. ranIn k log last room (further p)) (stepsLeft log (further p)) (λ k l. spare k (further p) (g .0) l) n (omega (arith, g .1, f)))
 
   pub ran-stop : (p : Progress) → goesOn log last room p ≡ false → ran log last room p ≡ p
   unfolding ran

@@ -100,20 +100,27 @@ wrap-fits : (e : Elapsed) (w : Waiting) → fitsTime w ≡ true → ltb (atWrap 
 wrap-fits e (Value x) k = k
 wrap-fits e NoValue k = lt-ltb (timeOf ((secondsOf (e .value) + 1) % 2 ^ 32) 0) (2 ^ 56) (omega arith)
 
-after-code : (c : Clock) (v : ℕ) → v < 64 → ClockWorks c → ClockWorks (afterCode c v)
+-- the ways that a Time-Code can go: the wrap, the next one, any other
+pub code-is : (c : Clock) (v : ℕ) (P : Clock → Type 0)
+    → P (record { last = v; elapsed = atWrap (c .elapsed) (c .waiting); waiting = NoValue })
+    → P (record { last = v; elapsed = fractionSet (c .elapsed) v; waiting = c .waiting })
+    → P (record { last = v; elapsed = c .elapsed; waiting = c .waiting })
+    → P (afterCode c v)
 unfolding afterCode
-after-code c v h k = go (eqb (c .last) 63 && eqb v 0) (eqb v (c .last + 1))
+code-is c v P wrap next other = go (eqb (c .last) 63 && eqb v 0) (eqb v (c .last + 1))
   where
-    low : leb v 63 ≡ true
-    low = le-leb v 63 (omega arith)
-
-    go : (t s : Bool) → ClockWorks (cond t (record { last = v; elapsed = atWrap (c .elapsed) (c .waiting); waiting = NoValue })
+    go : (t s : Bool) → P (cond t (record { last = v; elapsed = atWrap (c .elapsed) (c .waiting); waiting = NoValue })
         (record { last = v; elapsed = cond s (fractionSet (c .elapsed) v) (c .elapsed); waiting = c .waiting }))
-    go true s = (wrap-fits (c .elapsed) (c .waiting) (k .1), refl, low)
-    go false true =
-        let l = ltb-true (c .elapsed .value) (2 ^ 56) (k .0) in
-        (lt-ltb (timeOf (secondsOf (c .elapsed .value)) (v * 2 ^ 18)) (2 ^ 56) (omega (arith, l, h)), k .1, low)
-    go false false = (k .0, k .1, low)
+    go true s = wrap
+    go false true = next
+    go false false = other
+
+after-code : (c : Clock) (v : ℕ) → v < 64 → ClockWorks c → ClockWorks (afterCode c v)
+after-code c v h k =
+    let low : leb v 63 ≡ true = le-leb v 63 (omega arith) in
+    let l = ltb-true (c .elapsed .value) (2 ^ 56) (k .0) in
+    code-is c v ClockWorks (wrap-fits (c .elapsed) (c .waiting) (k .1), refl, low)
+    (lt-ltb (timeOf (secondsOf (c .elapsed .value)) (v * 2 ^ 18)) (2 ^ 56) (omega (arith, l, h)), k .1, low) (k .0, k .1, low)
 
 set-at : (w : When) (c : Clock) (t : TheTime) → t .value < 2 ^ 56 → ClockWorks c → ClockWorks (setAt w c t)
 set-at AtOnce c t h k = (lt-ltb _ _ h, refl, k .2)
