@@ -3,39 +3,39 @@ use mathlib.Core.Path.{_≡_, refl, sym, _∙_, ap}
 use mathlib.Core.Bool.{Bool, true, false, _&&_, _||_, false≢true, or-true}
 use mathlib.Core.Logic.{_⊎_, inl, inr, _≢_}
 use mathlib.Core.List.{List, [], _∷_}
-use Prim.Native.Nat.{ℕ, _+_, _-_, _<_, _≤_}
+use Prim.Native.Nat.{ℕ, _+_, _<_, _≤_}
 use native.Mathlib.Omega.{arith}
 use native.Mathlib.Decide.{decLe}
 use native.Mathlib.Nat.{lt-of-not-le}
-use lib.ListN.{length, getD, drop}
+use lib.ListN.{length, getD}
 use Rattle.octets.proofs.PlaceLaws.{second-true}
-use Rattle.packets.specs.Instruction.{isWrite, headerSize}
+use Rattle.packets.specs.Instruction.{isRmw, isWrite, headerSize}
+use Rattle.packets.specs.Header.{kindIn}
 use Rattle.packets.specs.Reading.{readPacket}
 use Rattle.packets.specs.declared.instruction.Kind.{Kind}
 use Rattle.packets.specs.declared.instruction.Kind.the-variants.{ReadModifyWrite, Write}
 use Rattle.packets.specs.declared.header.Header.{Header}
 use Rattle.packets.specs.declared.path.Path.{Path}
-use Rattle.packets.specs.declared.reading.End.{End}
 use Rattle.packets.specs.declared.reading.Reading.the-variants.{Command}
 use Rattle.unit.specs.Some.{some}
 use Rattle.unit.specs.Fate.{isSuccess, fateNumber}
 use Rattle.unit.specs.Windows.{holds, hasRight, used}
 use Rattle.unit.specs.Usable.{usable}
-use Rattle.unit.specs.Decide.{kindIn, isRmw, spanSize, headerStatus, wantedCount, dataStatus}
-use Rattle.unit.specs.Plan.{memoryAction}
+use Rattle.unit.specs.Given.{Arrived, Lent}
+use Rattle.unit.specs.Decide.{spanSize, headerStatus, allAtHand, dataCount, dataStatusOf}
 use Rattle.unit.specs.Act.{stored}
-use Rattle.unit.specs.Calls.{withoutReply, leaving, takeCommand, takeTimeCode, takeTicks}
+use Rattle.unit.specs.Calls.{withoutReply, leaving, takeTimeCode, takeTicks}
 use Rattle.unit.specs.declared.fate.Fate.the-variants.{Obeyed}
 use Rattle.unit.specs.declared.clock.Clock.{Clock}
 use Rattle.unit.specs.declared.calls.Answer.{Answer}
 use Rattle.unit.specs.declared.windows.Window.{Window}
-use Rattle.unit.specs.declared.fate.Status.{Status}
 use Rattle.unit.specs.declared.unit.Unit.{Unit as TheUnit}
 use Rattle.packets.proofs.ReadingLaws.{header-whole}
 use Rattle.unit.proofs.CallLaws.{packet-length}
 use Rattle.unit.proofs.DecideLaws.{write-bit, memory-passed, span-passed}
 use Rattle.unit.proofs.UsableLaws.{alone, usable-packet, code-with-memory, ticks-with-memory}
-use Rattle.unit.proofs.CommandLaws.{packet-is, command-is}
+use Rattle.unit.proofs.PlanLaws.{memoryActionIn}
+use Rattle.unit.proofs.CommandLaws.{takeCommand, packet-is, command-is}
 use Rattle.unit.proofs.GrantLaws.{authorised-window}
 use Rattle.unit.proofs.MemoryLaws.{memory-outside, storing-kind}
 use Rattle.demands.proofs.NumbersHold.{one-two-three, small-rows}
@@ -65,69 +65,66 @@ held kind at size (w ∷ ws) k e = go (holds w at size) (hasRight kind w) refl (
     go true false f right e rest = rw (rest e) (or-true (w .write))
     go false b f right e rest = rest e
 
-module _ (u : TheUnit) (p : List ℕ) (end : End) (link : ℕ) (m r : List ℕ) (works : usable u (length m) ≡ true) (h : Header)
-    (read : readPacket p (u .number) .reading ≡ Command h) where
+module _ (u : TheUnit) (p : Arrived) (lent : Lent) (works : usable u (length (lent .memory)) ≡ true) (h : Header)
+    (read : readPacket (p .packet) (u .number) .reading ≡ Command h) where
   abbrev path : Path
-  path = readPacket p (u .number) .path
+  path = readPacket (p .packet) (u .number) .path
 
-  abbrev from : ℕ
-  from = headerSize (h .instruction)
-
-  abbrev status : Status
-  status = dataStatus (drop from p) (wantedCount h) end
+  abbrev left : List ℕ
+  left = stored (memoryActionIn h p) (p .packet) (lent .memory)
 
   abbrev there : ℕ → Type 0
   there i =
       (h : Header) × IsCommand u p h × (h .protocol ≡ 0x01) × ((isWrite (h .instruction) || isRmw (kindIn h)) ≡ true) × (h .address ≤ i) × (i < h .address + spanSize h)
       × WindowForWriting u h
 
-  strays : h .protocol ≡ 0x01 → isSuccess (headerStatus u h path link) ≡ true → (i : ℕ)
-      → getD (stored (memoryAction h status from (length p - from)) p m) i 0 ≢ getD m i 0 → there i
-  strays e a i other = go (storing-kind (kindIn h) h status p m from (length p - from)) (decLe (h .address) i) (decLe (h .address + spanSize h) i)
+  strays : h .protocol ≡ 0x01 → isSuccess (headerStatus u h path (p .link)) ≡ true → (i : ℕ) → getD left i 0 ≢ getD (lent .memory) i 0 → there i
+  strays e a i other =
+      go (storing-kind (kindIn h) h (dataStatusOf h p) (p .packet) (lent .memory) (headerSize (h .instruction)) (dataCount h (allAtHand h p))) (decLe (h .address) i) (decLe (h .address + spanSize h) i)
     where
       outside : (i < h .address) ⊎ (h .address + spanSize h ≤ i) → ⊥
-      outside o = other (memory-outside u h path p end link m works (header-whole p (u .number) h read) e a i o)
+      outside o = other (memory-outside u h path p (lent .memory) works (header-whole (p .packet) (u .number) h read) e a i o)
 
       window : (kindIn h ≡ Write) ⊎ (kindIn h ≡ ReadModifyWrite) → WindowForWriting u h
       window k =
           held (kindIn h) (h .address) (spanSize h) (used (u .windows)) k
-          (authorised-window (u .windows) h (span-passed (u .windows) h (memory-passed u h path link e a) .1))
+          (authorised-window (u .windows) h (span-passed (u .windows) h (memory-passed u h path (p .link) e a) .1))
 
       stores : (kindIn h ≡ Write) ⊎ (kindIn h ≡ ReadModifyWrite) → (isWrite (h .instruction) || isRmw (kindIn h)) ≡ true
       stores (inl k) = rw (write-bit h k)
       stores (inr k) = rw k (or-true (isWrite (h .instruction)))
 
-      go : (stored (memoryAction h status from (length p - from)) p m ≡ m) ⊎ ((kindIn h ≡ Write) ⊎ (kindIn h ≡ ReadModifyWrite)) → Dec (h .address ≤ i)
+      go : (left ≡ lent .memory) ⊎ ((kindIn h ≡ Write) ⊎ (kindIn h ≡ ReadModifyWrite)) → Dec (h .address ≤ i)
           → Dec (h .address + spanSize h ≤ i) → there i
       go (inl same) b l = absurd (other (ap (λ (x : List ℕ). getD x i 0) same))
       go (inr k) (no b) l = absurd (outside (inl (lt-of-not-le b)))
       go (inr k) (yes b) (yes l) = absurd (outside (inr l))
       go (inr k) (yes b) (no l) = (h, read, e, stores k, b, lt-of-not-le l, window k)
 
-  command-strays : OnlyInWindow u p m (takeCommand u h path p end link m r)
+  command-strays : OnlyInWindow u p lent (takeCommand u h path p lent)
   command-strays =
-      command-is u h path p end link m r (OnlyInWindow u p m) same (λ e. (λ w. same, λ w. same)) (λ e a. (λ w. strays e a, λ w. strays e a))
+      command-is u h path p lent (OnlyInWindow u p lent) same (λ e. (λ w. same, λ w. same)) (λ e a. (λ w. strays e a, λ w. strays e a))
       (λ e a. (λ w. same, λ w. same))
     where
-      same : (i : ℕ) → getD m i 0 ≢ getD m i 0 → there i
+      same : (i : ℕ) → getD (lent .memory) i 0 ≢ getD (lent .memory) i 0 → there i
       same i other = absurd (other refl)
 
 pub never-strays : NeverStrays ours
-never-strays u p end link m r = (
-  packet-length u p end link m r .0,
-  packet-length u p end link m r .1,
-  packet-is u p end link m r (OnlyInWindow u p m) (λ e. same) (λ e f. same) (λ e f why g. same) (λ e f g. same) (λ e f g t. same)
-      (λ e f h g. command-strays u p end link m r e h g),
+never-strays u p lent = (
+  packet-length u p lent .0,
+  packet-length u p lent .1,
+  packet-is u p lent (OnlyInWindow u p lent) (λ e. same) (λ e f. same) (λ e f why g. same) (λ e f g. same) (λ e f g t. same)
+      (λ e f h g. command-strays u p lent e h g),
 )
   where
-    same : OnlyInWindow u p m (leaving (withoutReply Obeyed u) m r)
+    same : OnlyInWindow u p lent (leaving (withoutReply Obeyed u) lent)
     same i other = absurd (other refl)
 
 -- ---- histories
 
 -- usable with a memory, call by call
 usable-call : (u : TheUnit) (n : ℕ) (c : Call) → usable u n ≡ true → Lends n c → usable (answerTo ours u c .unit) n ≡ true
-usable-call u n (packet p end link m r) e l = rw (l .0) at (usable-packet u p end link m r (l .1) (rw (l .0) e))
+usable-call u n (packet p lent) e l = rw (l .0) at (usable-packet u p lent (l .1) (rw (l .0) e))
 usable-call u n (timeCode byte) e l = code-with-memory u n byte e
 usable-call u n (ticks count) e l = ticks-with-memory u n count e
 
@@ -142,7 +139,7 @@ small-usable Moved u n a e (inl s) one = false≢true (sym (s .0) ∙ alone u n 
 small-usable Moved u n a e (inr s) one = let zero = s .1 in absurd (omega (arith, zero, one))
 
 not-one : (u : TheUnit) (n : ℕ) (c : Call) → usable u n ≡ true → Lends n c → fateNumber (answerTo ours u c .fate) ≢ 1
-not-one u n (packet p end link m r) e l one = false≢true (sym (one-two-three u p end link m r .0 .0 one) ∙ rw (l .0) e)
+not-one u n (packet p lent) e l one = false≢true (sym (one-two-three u p lent .0 .0 one) ∙ rw (l .0) e)
 not-one u n (timeCode byte) e l one = small-usable (ByCode byte) u n (takeTimeCode u byte) e (small-rows .0 u byte) one
 not-one u n (ticks count) e l one = small-usable (ByTicks u) u n (takeTicks u count) e (small-rows .1 u count) one
 

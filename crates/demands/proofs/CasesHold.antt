@@ -4,12 +4,14 @@ use Rattle.octets.specs.Crc.{crc, mirrored, bits, remainder, message, modulo}
 use Rattle.packets.specs.Instruction.{kindOf}
 use Rattle.packets.specs.Path.{withoutLeadingZeros, orOneZero, pathOf}
 use Rattle.packets.specs.Reading.{readProtocol, readPacket}
+use Rattle.unit.specs.Counters.{countedFor}
 use Rattle.unit.specs.Clock.{afterTicks}
+use Rattle.unit.specs.Judge.{judged}
 use Rattle.unit.specs.Calls.{takePacket, takeTicks}
 use Rattle.demands.specs.Cases.{HandCases}
 
 pub hand-cases : HandCases
-unfolding crc mirrored bits remainder message modulo kindOf withoutLeadingZeros orOneZero pathOf readProtocol readPacket afterTicks takePacket takeTicks
+unfolding crc mirrored bits remainder message modulo kindOf withoutLeadingZeros orOneZero pathOf readProtocol readPacket afterTicks takePacket judged countedFor takeTicks
 hand-cases = (
   refl,
   refl,
@@ -21,7 +23,7 @@ hand-cases = (
   refl,
   (refl, refl, refl, refl),
   (refl, refl, refl, refl),
-  λ u end link m r works there. rw (works, there),
-  λ u end link m r works there. rw (works, there),
+  λ u end link lent works there. rw (works, there),
+  λ u end link lent works there. rw (works, there),
   λ u works most. rw (works, most),
 )

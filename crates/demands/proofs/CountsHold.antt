@@ -9,12 +9,12 @@ use lib.Dec.{eqb, ltb}
 use lib.ListN.{length, getD, set, length-set}
 use lib.Seq.{getD-set-same, getD-set-other}
 use Rattle.octets.proofs.NumberLaws.{digits-at}
-use Rattle.packets.specs.declared.reading.End.{End}
 use Rattle.packets.specs.declared.reading.Refusal.the-variants.{Incomplete, UnknownProtocol, ExtendedProtocol, Reply, HeaderCrc}
 use Rattle.unit.specs.Fate.{fateNumber}
 use Rattle.unit.specs.Counters.{bumpedAt, counterOf, total, countedFor}
 use Rattle.unit.specs.Clock.{afterCode, afterTicks}
 use Rattle.unit.specs.Act.{withClock}
+use Rattle.unit.specs.Given.{Arrived, Lent}
 use Rattle.unit.specs.Calls.{Outcome, takePacket, smallCall, takeTimeCode, takeTicks}
 use Rattle.unit.specs.declared.fate.Fate.{Fate}
 use Rattle.unit.specs.declared.fate.Fate.the-variants.{TimeChanged, Unusable, NoSuchLink, NoRoom, Unread, TimeThrownAway, NotObeyed, Obeyed, TimeTaken, Replied}
@@ -28,9 +28,9 @@ use Rattle.demands.specs.Counts.{countOf, countOfAll, counted, CountersA
 -- ---- each call counts its fate
 
 -- with its own counters a unit is itself
-packet-counts : (u : TheUnit) (p : List ℕ) (end : End) (link : ℕ) (m r : List ℕ)
-    → takePacket u p end link m r .answer .unit .counters ≡ countedFor (takePacket u p end link m r .answer .fate) (u .counters)
-packet-counts u p end link m r = ap (λ (o : Outcome). o .answer .unit .counters) (counters-aside u (u .counters) p end link m r)
+packet-counts : (u : TheUnit) (p : Arrived) (lent : Lent)
+    → takePacket u p lent .answer .unit .counters ≡ countedFor (takePacket u p lent .answer .fate) (u .counters)
+packet-counts u p lent = ap (λ (o : Outcome). o .answer .unit .counters) (counters-aside u (u .counters) p lent)
 
 small-counts : (u : TheUnit) (c : Clock) → smallCall u (withClock u c) .unit .counters ≡ countedFor (smallCall u (withClock u c) .fate) (u .counters)
 unfolding countedFor
@@ -39,7 +39,7 @@ small-counts u c =
 
 call-counts : (u : TheUnit) (c : Call) → answerTo ours u c .unit .counters ≡ countedFor (answerTo ours u c .fate) (u .counters)
 unfolding takeTimeCode takeTicks
-call-counts u (packet p end link m r) = packet-counts u p end link m r
+call-counts u (packet p lent) = packet-counts u p lent
 call-counts u (timeCode byte) = small-counts u (afterCode (u .clock) (byte % 2 ^ 6))
 call-counts u (ticks count) = small-counts u (afterTicks (u .clock) count)
 

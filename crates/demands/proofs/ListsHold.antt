@@ -16,7 +16,7 @@ use Rattle.unit.proofs.CounterLaws.{counters-aside, count-order}
 use Rattle.demands.proofs.Weave.{Off, Fits, told, left, weave}
 use Rattle.demands.proofs.Steps.{tells, leaves, same-fate, keeps, only-counted}
 use Rattle.demands.specs.Terminal.{ours, Every}
-use Rattle.demands.specs.Lists.{Side, Merge, neither, fromOne, fromOther, Sent, Rmap, State, Heard, heardOf, nextOf, heard, ends, refers, stores, Clear, Apart, EachAsAlone, OneEnd, Merges}
+use Rattle.demands.specs.Lists.{Side, Merge, neither, fromOne, fromOther, Sent, Rmap, State, lentFor, Heard, heardOf, nextOf, heard, ends, refers, stores, Clear, Apart, EachAsAlone, OneEnd, Merges}
 
 module _ (s : State) where
   abbrev u : TheUnit
@@ -32,13 +32,13 @@ module _ (s : State) where
   step-heard : (c : Sent) (k m : List ℕ) → heardOf ours (at k m) c ≡ tells s c m
   step-heard c k m =
       ap (λ (o : Outcome). record { fate = o .answer .fate; length = o .answer .length; buffer = o .reply })
-      (counters-aside u k (c .packet) (c .end) (c .link) m (c .buffer))
+      (counters-aside u k (c .arrived) (lentFor c m))
 
   step-next : (c : Sent) (k m : List ℕ) → Rmap c → nextOf ours (at k m) c ≡ at (countedFor (fateIn c m) k) (leaves s c m)
   step-next c k m rmap =
-      ap (λ (o : Outcome). record { unit = o .answer .unit; memory = o .memory }) (counters-aside u k (c .packet) (c .end) (c .link) m (c .buffer))
+      ap (λ (o : Outcome). record { unit = o .answer .unit; memory = o .memory }) (counters-aside u k (c .arrived) (lentFor c m))
       ∙ ap (λ (v : TheUnit). record { unit = withCounters v (countedFor (fateIn c m) k); memory = leaves s c m })
-      (only-counted u (c .packet) (c .end) (c .link) m (c .buffer) rmap)
+      (only-counted u (c .arrived) (lentFor c m) rmap)
 
   heard-told : (cs : List Sent) (k m : List ℕ) → Every Rmap cs → heard ours (at k m) cs ≡ told (tells s) (leaves s) cs m
   unfolding heard told

@@ -2,7 +2,6 @@
 use mathlib.Core.Path.{_≡_, refl, sym, _∙_, ap}
 use mathlib.Core.Bool.{Bool, true, false, cond, _&&_, false≢true, or-true}
 use mathlib.Core.Logic.{_≢_}
-use mathlib.Core.List.{List}
 use Prim.Native.Nat.{ℕ, zero, suc, _+_, _^_, _<_}
 use native.Mathlib.Omega.{arith}
 use native.Mathlib.Nat.{add-zero}
@@ -10,18 +9,19 @@ use borrow.Author.Tests.{eqb-true, eq-eqb, ne-eqb, ltb-true}
 use lib.Dec.{eqb, ltb}
 use lib.ListN.{length}
 use Rattle.octets.proofs.PlaceLaws.{first-true, second-true}
+use Rattle.packets.specs.Header.{kindIn}
 use Rattle.packets.specs.Reading.{readPacket}
 use Rattle.packets.specs.declared.header.Header.{Header}
 use Rattle.packets.specs.declared.path.Path.{Path}
-use Rattle.packets.specs.declared.reading.End.{End}
 use Rattle.packets.specs.declared.reading.Reading.the-variants.{Refused, Time, Command}
 use Rattle.packets.proofs.ReadingLaws.{not-command, one-command}
 use Rattle.unit.specs.Some.{some}
 use Rattle.unit.specs.Fate.{byteOf, isSuccess, fateNumber, fateStatus}
 use Rattle.unit.specs.Fields.{fieldOf, aboveField, above, named, missing, rowOf, isMissing}
-use Rattle.unit.specs.Decide.{kindIn, openingStatus, fieldCount, namesFields, fieldsStatus, headerStatus}
+use Rattle.unit.specs.Given.{Arrived, Lent}
+use Rattle.unit.specs.Decide.{openingStatus, fieldCount, namesFields, fieldsStatus, headerStatus}
 use Rattle.unit.specs.Plan.{unansweredFate}
-use Rattle.unit.specs.Calls.{Outcome, takeCommand, takePacket}
+use Rattle.unit.specs.Calls.{Outcome, takePacket}
 use Rattle.unit.specs.declared.fate.Status.{Status}
 use Rattle.unit.specs.declared.fate.Status.the-variants.{NoSuchField}
 use Rattle.unit.specs.declared.fate.Fate.the-variants.{Replied}
@@ -29,7 +29,7 @@ use Rattle.unit.specs.declared.fate.Told.{Told}
 use Rattle.unit.specs.declared.fate.Told.the-variants.{Nothing, Byte}
 use Rattle.unit.specs.declared.unit.Unit.{Unit as TheUnit}
 use Rattle.unit.proofs.DecideLaws.{memory-passed, fields-passed, span-passed, named-passed}
-use Rattle.unit.proofs.CommandLaws.{packet-is, command-is}
+use Rattle.unit.proofs.CommandLaws.{takeCommand, packet-is, command-is}
 use Rattle.unit.proofs.GrantLaws.{authorised-window, authorised-extended}
 use Rattle.demands.proofs.Below.{below}
 use Rattle.demands.proofs.NumbersHold.{one-two-three}
@@ -99,81 +99,81 @@ no-status z = omega (arith, ap byte-in z)
 -- ---- memory
 
 pub obeyed-in-window : ObeyedInWindow ours
-obeyed-in-window u p end link m r h is rmap =
-    packet-is u p end link m r Q (λ e z. absurd (no-status z)) (λ e f z. absurd (no-status z)) (λ e f why g z. absurd (no-status z)) (λ e f g z. absurd (no-status z))
+obeyed-in-window u p lent h is rmap =
+    packet-is u p lent Q (λ e z. absurd (no-status z)) (λ e f z. absurd (no-status z)) (λ e f why g z. absurd (no-status z)) (λ e f g z. absurd (no-status z))
     (λ e f g t z. absurd (no-status z))
-    (λ e f k g. command k (one-command (readPacket p (u .number) .reading) h k is g))
+    (λ e f k g. command k (one-command (readPacket (p .packet) (u .number) .reading) h k is g))
   where
     path : Path
-    path = readPacket p (u .number) .path
+    path = readPacket (p .packet) (u .number) .path
 
     Q : Outcome → Type 0
     Q o = fateStatus (o .answer .fate) ≡ Byte 0 → WindowWithRight u h
 
-    command : (k : Header) → k ≡ h → Q (takeCommand u k path p end link m r)
+    command : (k : Header) → k ≡ h → Q (takeCommand u k path p lent)
     command k e = rw e (
-        command-is u h path p end link m r Q (λ z. absurd (no-status z))
-        (λ a. (λ w z. absurd (refused-other (headerStatus u h path link) a z), λ w z. absurd (silent-other (headerStatus u h path link) a z)))
+        command-is u h path p lent Q (λ z. absurd (no-status z))
+        (λ a. (λ w z. absurd (refused-other (headerStatus u h path (p .link)) a z), λ w z. absurd (silent-other (headerStatus u h path (p .link)) a z)))
         (λ q a. let held = window a in (λ w z. held, λ w z. held)) (λ q a. absurd (q rmap)))
       where
-        window : isSuccess (headerStatus u h path link) ≡ true → WindowWithRight u h
+        window : isSuccess (headerStatus u h path (p .link)) ≡ true → WindowWithRight u h
         window a =
-            let authorised = span-passed (u .windows) h (memory-passed u h path link rmap a) .1 in
+            let authorised = span-passed (u .windows) h (memory-passed u h path (p .link) rmap a) .1 in
             (authorised-extended (u .windows) h authorised, authorised-window (u .windows) h authorised)
 
 -- ---- fields
 
-module _ (u : TheUnit) (p : List ℕ) (end : End) (link : ℕ) (m r : List ℕ) (h : Header) (is : readPacket p (u .number) .reading ≡ Command h)
+module _ (u : TheUnit) (p : Arrived) (lent : Lent) (h : Header) (is : readPacket (p .packet) (u .number) .reading ≡ Command h)
     (fields : h .protocol ≡ 0x03) (lacks : NamesMissing h) where
   abbrev path : Path
-  path = readPacket p (u .number) .path
+  path = readPacket (p .packet) (u .number) .path
 
   other : h .protocol ≡ 0x01 → ⊥
   other e = omega (arith, sym e ∙ fields)
 
   -- its header is refused
-  lacking : isSuccess (headerStatus u h path link) ≡ true → ⊥
+  lacking : isSuccess (headerStatus u h path (p .link)) ≡ true → ⊥
   lacking a =
-      false≢true (sym (named-passed (u .owner) h path link (fields-passed u h path link other a) .1) ∙ names-missing h lacks)
+      false≢true (sym (named-passed (u .owner) h path (p .link) (fields-passed u h path (p .link) other a) .1) ∙ names-missing h lacks)
 
   abbrev NotZero : Outcome → Type 0
   NotZero o = fateStatus (o .answer .fate) ≢ Byte 0
 
-  command-refused : NotZero (takeCommand u h path p end link m r)
+  command-refused : NotZero (takeCommand u h path p lent)
   command-refused =
-      command-is u h path p end link m r NotZero no-status
-      (λ a. (λ w. refused-other (headerStatus u h path link) a, λ w. silent-other (headerStatus u h path link) a)) (λ q a. absurd (other q)) (λ q a. absurd (lacking a))
+      command-is u h path p lent NotZero no-status
+      (λ a. (λ w. refused-other (headerStatus u h path (p .link)) a, λ w. silent-other (headerStatus u h path (p .link)) a)) (λ q a. absurd (other q)) (λ q a. absurd (lacking a))
 
   -- by F1, if nothing before it refused it
   abbrev SaysF1 : Outcome → Type 0
   SaysF1 o = (fateNumber (o .answer .fate) ≡ 3 → ⊥) → fateStatus (o .answer .fate) ≡ Byte 0xF1
 
-  is-f1 : isSuccess (openingStatus h 0x00 0xFE) ≡ true → namesFields h ≡ true → headerStatus u h path link ≡ NoSuchField
+  is-f1 : isSuccess (openingStatus h 0x00 0xFE) ≡ true → namesFields h ≡ true → headerStatus u h path (p .link) ≡ NoSuchField
   unfolding headerStatus fieldsStatus
   is-f1 o n = rw (ne-eqb (h .protocol) 0x01 other, o, n, names-missing h lacks)
 
-  command-f1 : isSuccess (openingStatus h 0x00 0xFE) ≡ true → namesFields h ≡ true → SaysF1 (takeCommand u h path p end link m r)
+  command-f1 : isSuccess (openingStatus h 0x00 0xFE) ≡ true → namesFields h ≡ true → SaysF1 (takeCommand u h path p lent)
   command-f1 o n =
       let f = is-f1 o n in
-      command-is u h path p end link m r SaysF1 (λ room. absurd (room refl)) (λ a. (λ w room. rw f, λ w room. rw f)) (λ q a. absurd (other q)) (λ q a. absurd (lacking a))
+      command-is u h path p lent SaysF1 (λ room. absurd (room refl)) (λ a. (λ w room. rw f, λ w room. rw f)) (λ q a. absurd (other q)) (λ q a. absurd (lacking a))
 
 pub missing-refused : MissingRefused ours
-missing-refused u p end link m r h is fields lacks =
-    packet-is u p end link m r (λ o. fateStatus (o .answer .fate) ≢ Byte 0) (λ e. no-status) (λ e f. no-status) (λ e f why g. no-status) (λ e f g. no-status)
+missing-refused u p lent h is fields lacks =
+    packet-is u p lent (λ o. fateStatus (o .answer .fate) ≢ Byte 0) (λ e. no-status) (λ e f. no-status) (λ e f why g. no-status) (λ e f g. no-status)
     (λ e f g t. no-status)
-    (λ e f k g. rw (one-command (readPacket p (u .number) .reading) h k is g) (command-refused u p end link m r h is fields lacks))
+    (λ e f k g. rw (one-command (readPacket (p .packet) (u .number) .reading) h k is g) (command-refused u p lent h is fields lacks))
 
 pub missing-is-f1 : MissingIsF1 ours
-missing-is-f1 u p end link m r h is fields lacks works there o n fits =
-    packet-is u p end link m r (SaysF1 u p end link m r h is fields lacks) (λ e. absurd (false≢true (sym e ∙ works))) (λ e f. absurd (false≢true (sym f ∙ there)))
+missing-is-f1 u p lent h is fields lacks works there o n fits =
+    packet-is u p lent (SaysF1 u p lent h is fields lacks) (λ e. absurd (false≢true (sym e ∙ works))) (λ e f. absurd (false≢true (sym f ∙ there)))
     (λ e f why g. absurd (not-command (Refused why) (omega arith) (sym g ∙ is))) (λ e f g. absurd (not-command Time (omega arith) (sym g ∙ is)))
     (λ e f g t. absurd (not-command Time (omega arith) (sym g ∙ is)))
-    (λ e f k g. rw (one-command (readPacket p (u .number) .reading) h k is g) (command-f1 u p end link m r h is fields lacks o n)) room
+    (λ e f k g. rw (one-command (readPacket (p .packet) (u .number) .reading) h k is g) (command-f1 u p lent h is fields lacks o n)) room
   where
-    room : fateNumber (takePacket u p end link m r .answer .fate) ≡ 3 → ⊥
+    room : fateNumber (takePacket u p lent .answer .fate) ≡ 3 → ⊥
     room three =
-        let due = one-two-three u p end link m r .2 .0 three .2 in
-        let same = one-command (readPacket p (u .number) .reading) h (due .0) is (due .1) in
-        let long : length r < lengthDue u p h end link = rw same at (due .3) in
+        let due = one-two-three u p lent .2 .0 three .2 in
+        let same = one-command (readPacket (p .packet) (u .number) .reading) h (due .0) is (due .1) in
+        let long : length (lent .reply) < lengthDue u p h = rw same at (due .3) in
         let short = fits (rw same at (due .2)) in
         omega (arith, long, short)

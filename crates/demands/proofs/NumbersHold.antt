@@ -2,7 +2,6 @@
 use mathlib.Core.Path.{_≡_, refl, sym, _∙_}
 use mathlib.Core.Bool.{true, false, false≢true}
 use mathlib.Core.Logic.{inl, inr, _↔_}
-use mathlib.Core.List.{List}
 use Prim.Native.Nat.{ℕ, _%_, _^_, _<_, _≤_}
 use native.Mathlib.Omega.{arith}
 use lib.Dec.{eqb}
@@ -10,7 +9,6 @@ use lib.ListN.{length}
 use Rattle.packets.specs.Instruction.{wantsReply}
 use Rattle.packets.specs.Reading.{numberOf, readPacket}
 use Rattle.packets.specs.declared.header.Header.{Header}
-use Rattle.packets.specs.declared.reading.End.{End}
 use Rattle.packets.specs.declared.reading.Reading.the-variants.{Refused, Time}
 use Rattle.packets.specs.declared.reading.Refusal.{Refusal}
 use Rattle.packets.specs.declared.reading.Refusal.the-variants.{Incomplete, UnknownProtocol, ExtendedProtocol, Reply, HeaderCrc}
@@ -19,7 +17,10 @@ use Rattle.unit.specs.Fate.{byteOf, fateNumber, fateStatus}
 use Rattle.unit.specs.Clock.{afterCode, afterTicks}
 use Rattle.unit.specs.Usable.{usable}
 use Rattle.unit.specs.Act.{withClock}
-use Rattle.unit.specs.Calls.{isLink, takeCommand, takePacket, smallCall, takeTimeCode, takeTicks}
+use Rattle.unit.specs.Given.{Arrived, Lent}
+use Rattle.unit.specs.Decide.{allAtHand}
+use Rattle.unit.specs.Judge.{isLink}
+use Rattle.unit.specs.Calls.{takePacket, smallCall, takeTimeCode, takeTicks}
 use Rattle.unit.specs.declared.fate.Status.{Status}
 use Rattle.unit.specs.declared.fate.Status.the-variants.{Success, UnusedCode, WrongKey, DataCrc, EarlyEop, TooMuchData, EndedByEep, VerifyOverrun}
 use Rattle.unit.specs.declared.fate.Status.the-variants.{NotAuthorised, RmwLength, WrongAddress, NotOwner, NoSuchField, ReadOnlyField, PlainDeviceId}
@@ -29,7 +30,7 @@ use Rattle.unit.specs.declared.clock.Clock.{Clock}
 use Rattle.unit.specs.declared.unit.Unit.{Unit as TheUnit}
 use Rattle.unit.proofs.FateLaws.{unread-number}
 use Rattle.unit.proofs.PlanLaws.{plan-status, roomless-plan}
-use Rattle.unit.proofs.CommandLaws.{packet-is, small-is, command-fate}
+use Rattle.unit.proofs.CommandLaws.{takeCommand, packet-is, small-is, command-fate}
 use Rattle.unit.proofs.UsableLaws.{code-is}
 use Rattle.packets.proofs.ReadingLaws.{not-command, one-command}
 use Rattle.demands.specs.Terminal.{ours, IsCommand, pathIn}
@@ -37,18 +38,18 @@ use Rattle.demands.specs.Refusals.{lengthDue, OneTwoThree, SmallRow, ByC
 
 -- ---- 1 goes before 2, 2 before all else; and 3
 
-module _ (u : TheUnit) (p : List ℕ) (end : End) (link : ℕ) (m r : List ℕ) where
+module _ (u : TheUnit) (p : Arrived) (lent : Lent) where
   abbrev Works : Type 0
-  Works = usable u (length m) ≡ true
+  Works = usable u (length (lent .memory)) ≡ true
 
   abbrev Too : Type 0
-  Too = (h : Header) × IsCommand u p h × (wantsReply (h .instruction) ≡ true) × (length r < lengthDue u p h end link)
+  Too = (h : Header) × IsCommand u p h × (wantsReply (h .instruction) ≡ true) × (length (lent .reply) < lengthDue u p h)
 
   abbrev Exactly : ℕ → Type 0
-  Exactly n = ((n ≡ 1) ↔ (usable u (length m) ≡ false)) × ((n ≡ 2) ↔ (Works × (isLink u link ≡ false))) × ((n ≡ 3) ↔ (Works × (isLink u link ≡ true) × Too))
+  Exactly n = ((n ≡ 1) ↔ (usable u (length (lent .memory)) ≡ false)) × ((n ≡ 2) ↔ (Works × (isLink u (p .link) ≡ false))) × ((n ≡ 3) ↔ (Works × (isLink u (p .link) ≡ true) × Too))
 
   -- past 1 and 2
-  later : Works → isLink u link ≡ true → (n : ℕ) → 3 ≤ n → (n ≡ 3) ↔ Too → Exactly n
+  later : Works → isLink u (p .link) ≡ true → (n : ℕ) → 3 ≤ n → (n ≡ 3) ↔ Too → Exactly n
   later e f n high three = (
     (λ k. absurd (omega (arith, k, high)), λ g. absurd (false≢true (sym g ∙ e))),
     (λ k. absurd (omega (arith, k, high)), λ g. absurd (false≢true (sym (g .1) ∙ f))),
@@ -56,25 +57,25 @@ module _ (u : TheUnit) (p : List ℕ) (end : End) (link : ℕ) (m r : List ℕ) 
   )
 
   -- no command
-  never : Works → isLink u link ≡ true → (n : ℕ) → 11 ≤ n → ((h : Header) → IsCommand u p h → ⊥) → Exactly n
+  never : Works → isLink u (p .link) ≡ true → (n : ℕ) → 11 ≤ n → ((h : Header) → IsCommand u p h → ⊥) → Exactly n
   never e f n high none = later e f n (omega (arith, high)) (λ k. absurd (omega (arith, k, high)), λ g. absurd (none (g .0) (g .1)))
 
   -- a command
-  command-three : (h : Header) → IsCommand u p h → (fateNumber (takeCommand u h (pathIn u p) p end link m r .answer .fate) ≡ 3) ↔ Too
+  command-three : (h : Header) → IsCommand u p h → (fateNumber (takeCommand u h (pathIn u p) p lent .answer .fate) ≡ 3) ↔ Too
   unfolding takeCommand
   command-three h is =
       let path = pathIn u p in
-      let plan = roomless-plan u h path p end link (length r) in
-      let status = plan-status u h path p end link (length r) in (
+      let plan = roomless-plan u h path (allAtHand h p) (p .end) (p .link) (length (lent .reply)) in
+      let status = plan-status u h path (allAtHand h p) (p .end) (p .link) (length (lent .reply)) in (
         λ n. let x = plan .0 n in (h, is, x .0, rw status at (x .1)),
         λ too.
-            let same = one-command (readPacket p (u .number) .reading) h (too .0) is (too .1) in
+            let same = one-command (readPacket (p .packet) (u .number) .reading) h (too .0) is (too .1) in
             plan .1 (rw same at (too .2), rw status (rw same at (too .3))),
       )
 
-  one-two-three-of : Exactly (fateNumber (takePacket u p end link m r .answer .fate))
+  one-two-three-of : Exactly (fateNumber (takePacket u p lent .answer .fate))
   one-two-three-of =
-      packet-is u p end link m r (λ o. Exactly (fateNumber (o .answer .fate)))
+      packet-is u p lent (λ o. Exactly (fateNumber (o .answer .fate)))
       (λ e. (
         (λ n. e, λ f. refl),
         (λ n. absurd (omega (arith, n)), λ f. absurd (false≢true (sym e ∙ f .0))),
@@ -88,8 +89,8 @@ module _ (u : TheUnit) (p : List ℕ) (end : End) (link : ℕ) (m r : List ℕ) 
       (λ e f why g. never e f (numberOf why) (unread-number why .0) (λ h is. not-command (Refused why) (omega arith) (sym g ∙ is)))
       (λ e f g. never e f 16 (omega arith) (λ h is. not-command Time (omega arith) (sym g ∙ is)))
       (λ e f g t. never e f 19 (omega arith) (λ h is. not-command Time (omega arith) (sym g ∙ is)))
-      (λ e f h g. later e f (fateNumber (takeCommand u h (pathIn u p) p end link m r .answer .fate))
-      (command-fate u h (pathIn u p) p end link m r (λ f. 3 ≤ fateNumber f) (omega arith) (λ s. omega arith) (λ s e. omega arith) (omega arith))
+      (λ e f h g. later e f (fateNumber (takeCommand u h (pathIn u p) p lent .answer .fate))
+      (command-fate u h (pathIn u p) p lent (λ f. 3 ≤ fateNumber f) (omega arith) (λ s. omega arith) (λ s e. omega arith) (omega arith))
       (command-three h g))
 
 pub one-two-three : OneTwoThree ours
@@ -142,8 +143,8 @@ unread-listed Reply = (refl, refl)
 unread-listed HeaderCrc = (refl, refl)
 
 pub listed : Listed ours
-listed u p end link m r =
-    packet-is u p end link m r (λ o. Lists (o .answer .fate)) (λ e. (refl, refl)) (λ e f. (refl, refl)) (λ e f why g. unread-listed why)
+listed u p lent =
+    packet-is u p lent (λ o. Lists (o .answer .fate)) (λ e. (refl, refl)) (λ e f. (refl, refl)) (λ e f why g. unread-listed why)
     (λ e f g. (refl, refl)) (λ e f g t. (refl, refl))
-    (λ e f h g. command-fate u h (readPacket p (u .number) .path) p end link m r Lists (refl, refl) (λ s. (refl, (refl, status-listed s)))
+    (λ e f h g. command-fate u h (pathIn u p) p lent Lists (refl, refl) (λ s. (refl, (refl, status-listed s)))
     (λ s e. (refl, (refl, status-listed s))) (refl, (refl, refl)))

@@ -1,5 +1,6 @@
--- Outcomes are determined: no function has a `requires`, and each promise is an equation for the result, and one for each lent buffer.
-use mathlib.Core.Path.{sym, _∙_}
+-- Outcomes are determined: no function has a `requires`, and each promise has equations for the result and for each lent buffer, or one for them all.
+use mathlib.Core.Path.{ap, sym, _∙_}
+use Rattle.unit.specs.Calls.{Outcome}
 use Rattle.demands.specs.Outcomes.{OctetsDetermined, PacketsDetermined, UnitDetermined, RecordsDetermined, TerminalDetermined}
 use Rattle.demands.specs.Outcomes.{OctetsAskNothing, PacketsAskNothing, UnitAsksNothing, RecordsAskNothing, TerminalAsksNothing}
 
@@ -40,6 +41,9 @@ packets-determined = (
   λ κs a z z′ e e′ p q. p ∙ sym q,
   λ κs a z z′ e e′ p q. p ∙ sym q,
   λ κs a z z′ e e′ p q. p ∙ sym q,
+  λ κs a z z′ e e′ p q. p ∙ sym q,
+  λ κs a z z′ e e′ p q. p ∙ sym q,
+  λ κs a z z′ e e′ p q. p ∙ sym q,
   λ κs a z z′ e e′ p q. p .0 ∙ sym (q .0),
   λ κs a z z′ e e′ p q. p ∙ sym q,
   λ κs a z z′ e e′ p q. p ∙ sym q,
@@ -59,9 +63,10 @@ unit-determined = (
   λ κs a z z′ e e′ p q. p ∙ sym q,
   λ κs a z z′ e e′ p q. p ∙ sym q,
   λ κs a z z′ e e′ p q. p ∙ sym q,
-  λ κs a z z′ e e′ p q. p .0 ∙ sym (q .0),
-  λ κs a z z′ e e′ p q. p .1 .0 ∙ sym (q .1 .0),
-  λ κs a z z′ e e′ p q. p .1 .1 ∙ sym (q .1 .1),
+  λ κs a z z′ e e′ p q. p ∙ sym q,
+  λ κs a z z′ e e′ p q. ap (λ (o : Outcome). o .answer) (p ∙ sym q),
+  λ κs a z z′ e e′ p q. ap (λ (o : Outcome). o .memory) (p ∙ sym q),
+  λ κs a z z′ e e′ p q. ap (λ (o : Outcome). o .reply) (p ∙ sym q),
   λ κs a z z′ e e′ p q. p ∙ sym q,
   λ κs a z z′ e e′ p q. p ∙ sym q,
 )
@@ -85,10 +90,10 @@ pub octets-ask-nothing : OctetsAskNothing
 octets-ask-nothing = (λ κs a. tt, λ κs a. tt, λ κs a. tt, λ κs a. tt, λ κs a. tt, λ κs a. tt, λ κs a. tt, λ κs a. tt, λ κs a. tt, λ κs a. tt, λ κs a. tt, λ κs a. tt, λ κs a. tt, λ κs a. tt, λ κs a. tt)
 
 pub packets-ask-nothing : PacketsAskNothing
-packets-ask-nothing = (λ κs a. tt, λ κs a. tt, λ κs a. tt, λ κs a. tt, λ κs a. tt, λ κs a. tt, λ κs a. tt, λ κs a. tt, λ κs a. tt, λ κs a. tt, λ κs a. tt, λ κs a. tt, λ κs a. tt, λ κs a. tt, λ κs a. tt, λ κs a. tt, λ κs a. tt, λ κs a. tt, λ κs a. tt, λ κs a. tt, λ κs a. tt, λ κs a. tt)
+packets-ask-nothing = (λ κs a. tt, λ κs a. tt, λ κs a. tt, λ κs a. tt, λ κs a. tt, λ κs a. tt, λ κs a. tt, λ κs a. tt, λ κs a. tt, λ κs a. tt, λ κs a. tt, λ κs a. tt, λ κs a. tt, λ κs a. tt, λ κs a. tt, λ κs a. tt, λ κs a. tt, λ κs a. tt, λ κs a. tt, λ κs a. tt, λ κs a. tt, λ κs a. tt, λ κs a. tt, λ κs a. tt, λ κs a. tt)
 
 pub unit-asks-nothing : UnitAsksNothing
-unit-asks-nothing = (λ κs a. tt, λ κs a. tt, λ κs a. tt, λ κs a. tt, λ κs a. tt, λ κs a. tt)
+unit-asks-nothing = (λ κs a. tt, λ κs a. tt, λ κs a. tt, λ κs a. tt, λ κs a. tt, λ κs a. tt, λ κs a. tt)
 
 pub records-ask-nothing : RecordsAskNothing
 records-ask-nothing = (λ κs a. tt, λ κs a. tt, λ κs a. tt, λ κs a. tt, λ κs a. tt)

@@ -7,9 +7,10 @@ use Prim.Native.Nat.{ℕ, _<_}
 use borrow.Author.Tests.{eqb-true, eq-eqb}
 use lib.Dec.{eqb}
 use Rattle.packets.specs.declared.instruction.Kind.the-variants.{ReadModifyWrite}
+use Rattle.packets.specs.Instruction.{isRmw}
+use Rattle.packets.specs.Header.{kindIn}
 use Rattle.packets.specs.declared.header.Header.{Header}
 use Rattle.packets.specs.declared.path.Path.{Path}
-use Rattle.packets.specs.declared.reading.End.{End}
 use Rattle.packets.proofs.PathLaws.{path-same}
 use Rattle.packets.specs.declared.time.When.{When}
 use Rattle.packets.specs.declared.time.When.the-variants.{AtWrap, AtOnce}
@@ -19,7 +20,8 @@ use Rattle.unit.specs.Fate.{isSuccess}
 use Rattle.unit.specs.Clock.{setAt, afterTime}
 use Rattle.unit.specs.Owner.{isOwner, unowned, swapped}
 use Rattle.unit.specs.Fields.{deviceId, missing, rowOf, valuesOf}
-use Rattle.unit.specs.Decide.{kindIn, isRmw, isAllowed, headerStatus}
+use Rattle.unit.specs.Given.{Arrived, Lent}
+use Rattle.unit.specs.Decide.{isAllowed, headerStatus}
 use Rattle.unit.specs.Act.{withOwner}
 use Rattle.unit.specs.Calls.{takePacket}
 use Rattle.unit.specs.declared.clock.Clock.{Clock}
@@ -43,12 +45,12 @@ last-stays AtOnce c t = refl
 last-stays AtWrap c t = refl
 
 -- a swap that passed is on Device ID
-on-device : (u : TheUnit) (p : List ℕ) (link : ℕ) (h : Header) → (h .protocol ≡ 0x01 → ⊥) → isSuccess (headerStatus u h (pathIn u p) link) ≡ true
+on-device : (u : TheUnit) (p : Arrived) (h : Header) → (h .protocol ≡ 0x01 → ⊥) → isSuccess (headerStatus u h (pathIn u p) (p .link)) ≡ true
     → kindIn h ≡ ReadModifyWrite → rowOf (h .address) ≡ deviceId
-on-device u p link h other accepted k =
-    swapped-row (h .address) (rw k at (named-passed (u .owner) h (pathIn u p) link (fields-passed u h (pathIn u p) link other accepted) .2))
+on-device u p h other accepted k =
+    swapped-row (h .address) (rw k at (named-passed (u .owner) h (pathIn u p) (p .link) (fields-passed u h (pathIn u p) (p .link) other accepted) .2))
 
-module _ (u : TheUnit) (p : List ℕ) (end : End) (link : ℕ) (m r : List ℕ) where
+module _ (u : TheUnit) (p : Arrived) (lent : Lent) where
   abbrev path : Path
   path = pathIn u p
 
@@ -57,21 +59,21 @@ module _ (u : TheUnit) (p : List ℕ) (end : End) (link : ℕ) (m r : List ℕ) 
   Kept v = (v .fields ≡ u .fields) × (v .owner ≡ u .owner) × (v .clock .last ≡ u .clock .last) × (v .links ≡ u .links)
 
   abbrev Allowed : TheUnit → Type 0
-  Allowed v = Kept v ⊎ OwnersOrClaim u p link v
+  Allowed v = Kept v ⊎ OwnersOrClaim u p v
 
   same : Kept u
   same = (refl, refl, refl, refl)
 
-  module _ (h : Header) (read : IsCommand u p h) (other : h .protocol ≡ 0x01 → ⊥) (accepted : isSuccess (headerStatus u h path link) ≡ true) where
+  module _ (h : Header) (read : IsCommand u p h) (other : h .protocol ≡ 0x01 → ⊥) (accepted : isSuccess (headerStatus u h path (p .link)) ≡ true) where
     known : h .protocol ≡ 0x03
-    known = protocol-other p (u .number) h read other
+    known = protocol-other (p .packet) (u .number) h read other
 
-    allowed : isAllowed (kindIn h) (u .owner) (h .initiator) path link ≡ true
-    allowed = named-passed (u .owner) h path link (fields-passed u h path link other accepted) .3
+    allowed : isAllowed (kindIn h) (u .owner) (h .initiator) path (p .link) ≡ true
+    allowed = named-passed (u .owner) h path (p .link) (fields-passed u h path (p .link) other accepted) .3
 
     -- a swap: the owner's, or anyone's where Device ID is 0, and then it claims or changes nothing
     claims : kindIn h ≡ ReadModifyWrite → (new expected : ℕ) → u .owner .device ≡ 0
-        → Allowed (withOwner u (swapped (u .owner) new expected (h .initiator) path link))
+        → Allowed (withOwner u (swapped (u .owner) new expected (h .initiator) path (p .link)))
     unfolding swapped
     claims k new expected zero = go (eqb (u .owner .device) expected) (eqb (u .owner .device) 0) (eqb new 0) refl (eq-eqb (u .owner .device) 0 zero)
       where
@@ -79,48 +81,48 @@ module _ (u : TheUnit) (p : List ℕ) (end : End) (link : ℕ) (m r : List ℕ) 
         o = u .owner
 
         taken : Owner
-        taken = record { device = new; initiator = h .initiator; path = path; link = link }
+        taken = record { device = new; initiator = h .initiator; path = path; link = p .link }
 
         go : (a b c : Bool) → eqb new 0 ≡ c → b ≡ true → Allowed (withOwner u (cond a (cond b (cond c o taken) (cond c unowned (record { device = new; initiator = o .initiator; path = o .path; link = o .link }))) o))
         go false b c e f = inl same
         go true true true e f = inl same
         go true true false e f =
-            inr (h, read, known, inr (zero, rw k, on-device u p link h other accepted k, rw (e, eq-eqb (h .initiator) (h .initiator) refl, path-same path, eq-eqb link link refl)))
+            inr (h, read, known, inr (zero, rw k, on-device u p h other accepted k, rw (e, eq-eqb (h .initiator) (h .initiator) refl, path-same path, eq-eqb (p .link) (p .link) refl)))
         go true false c e f = absurd (false≢true f)
 
-    swaps : kindIn h ≡ ReadModifyWrite → (new expected : ℕ) → Allowed (withOwner u (swapped (u .owner) new expected (h .initiator) path link))
+    swaps : kindIn h ≡ ReadModifyWrite → (new expected : ℕ) → Allowed (withOwner u (swapped (u .owner) new expected (h .initiator) path (p .link)))
     swaps k new expected = go (eqb (u .owner .device) 0) refl (rw k at allowed)
       where
-        go : (t : Bool) → eqb (u .owner .device) 0 ≡ t → (t || isOwner (u .owner) (h .initiator) path link) ≡ true
-            → Allowed (withOwner u (swapped (u .owner) new expected (h .initiator) path link))
+        go : (t : Bool) → eqb (u .owner .device) 0 ≡ t → (t || isOwner (u .owner) (h .initiator) path (p .link)) ≡ true
+            → Allowed (withOwner u (swapped (u .owner) new expected (h .initiator) path (p .link)))
         go true e a = claims k new expected (eqb-true (u .owner .device) 0 e)
         go false e a = inr (h, read, known, inl a)
 
-  packet-allowed : Allowed (takePacket u p end link m r .answer .unit)
+  packet-allowed : Allowed (takePacket u p lent .answer .unit)
   unfolding afterTime
   packet-allowed =
-      unit-is u p end link m r Allowed (λ f v x. x) (inl same) (λ w t g. inl (refl, refl, last-stays (t .when) (u .clock) t, refl))
+      unit-is u p lent Allowed (λ f v x. x) (inl same) (λ w t g. inl (refl, refl, last-stays (t .when) (u .clock) t, refl))
       (λ w there h g q a. (
         λ k new expected. swaps h g q a k new expected,
         λ k word. let owner = inl (rw k at (allowed h g q a)) in (inr (h, g, known h g q a, owner), inr (h, g, known h g q a, owner)),
       ))
 
 pub ownable-is-owners : OwnableIsOwners ours
-ownable-is-owners u p end link m r other = go (packet-allowed u p end link m r)
+ownable-is-owners u p lent other = go (packet-allowed u p lent)
   where
     v : TheUnit
-    v = takePacket u p end link m r .answer .unit
+    v = takePacket u p lent .answer .unit
 
-    go : Allowed u p end link m r v → OwnersOrClaim u p link v
+    go : Allowed u p lent v → OwnersOrClaim u p v
     go (inl k) = absurd (other (rw (k .0, k .1, k .2)))
     go (inr x) = x
 
 -- the owner changes by a swap on Device ID alone
 pub owner-is-swapped : OwnerIsSwapped ours
-owner-is-swapped u p end link m r other =
-    go (unit-is u p end link m r Swapped (λ f v x. x) (inl refl) (λ w t g. inl refl)
+owner-is-swapped u p lent other =
+    go (unit-is u p lent Swapped (λ f v x. x) (inl refl) (λ w t g. inl refl)
     (λ w there h g q a. (
-      λ k new expected. inr (h, g, protocol-other p (u .number) h g q, rw k, on-device u p link h q a k),
+      λ k new expected. inr (h, g, protocol-other (p .packet) (u .number) h g q, rw k, on-device u p h q a k),
       λ k word. (inl refl, inl refl),
     )))
   where
@@ -130,17 +132,17 @@ owner-is-swapped u p end link m r other =
     Swapped : TheUnit → Type 0
     Swapped v = (v .owner ≡ u .owner) ⊎ Swap
 
-    go : Swapped (takePacket u p end link m r .answer .unit) → Swap
+    go : Swapped (takePacket u p lent .answer .unit) → Swap
     go (inl same) = absurd (other same)
     go (inr x) = x
 
 pub fields-are-owners : FieldsAreOwners ours
-fields-are-owners u p end link m r row shown other = go (packet-allowed u p end link m r)
+fields-are-owners u p lent row shown other = go (packet-allowed u p lent)
   where
     v : TheUnit
-    v = takePacket u p end link m r .answer .unit
+    v = takePacket u p lent .answer .unit
 
-    go : Allowed u p end link m r v → OwnersOrClaim u p link v
+    go : Allowed u p lent v → OwnersOrClaim u p v
     go (inl k) = absurd (other (rw (k .0, k .1, k .2, k .3)))
     go (inr x) = x
 
@@ -163,16 +165,16 @@ other-row : (row : ℕ) → row < missing → some (eqb row) (4 ∷ ownable) ≡
 other-row row h e = rw e at (below (λ k. some (eqb k) (4 ∷ ownable) || some (eqb k) others) missing refl row h)
 
 -- of the fields' values the divider alone may differ
-fields-stay : (u : TheUnit) (p : List ℕ) (end : End) (link : ℕ) (m r : List ℕ)
-    → withOwnable u (takePacket u p end link m r .answer .unit) .fields ≡ takePacket u p end link m r .answer .unit .fields
-fields-stay u p end link m r =
-    unit-is u p end link m r (λ v. withOwnable u v .fields ≡ v .fields) (λ f v x. x) refl (λ w t g. refl)
+fields-stay : (u : TheUnit) (p : Arrived) (lent : Lent)
+    → withOwnable u (takePacket u p lent .answer .unit) .fields ≡ takePacket u p lent .answer .unit .fields
+fields-stay u p lent =
+    unit-is u p lent (λ v. withOwnable u v .fields ≡ v .fields) (λ f v x. x) refl (λ w t g. refl)
     (λ w there h g q a. (λ k new expected. refl, λ k word. (refl, sym (ap (λ (v : TheUnit). v .fields) (divider-only u word)))))
 
 pub others-stay : OthersStay ours
 unfolding valuesOf
-others-stay u p end link m r row shown small other =
-    let v = takePacket u p end link m r .answer .unit in
-    let s = sym (fields-stay u p end link m r) in
+others-stay u p lent row shown small other =
+    let v = takePacket u p lent .answer .unit in
+    let s = sym (fields-stay u p lent) in
     one-of (λ k. shownBy v shown k ≡ shownBy u shown k) others row (other-row row small other)
     (rw s, (rw s, (rw s, (rw s, (rw s, (rw s, (rw s, (rw s, tt))))))))

@@ -3,20 +3,19 @@ use mathlib.Core.Path.{_≡_, refl, sym, _∙_, ap}
 use mathlib.Core.Bool.{Bool, true, false, cond, not, _&&_, _||_, false≢true, and-true, and-false}
 use mathlib.Core.Logic.{inl, inr}
 use mathlib.Core.List.{List, [], _∷_}
-use Prim.Native.Nat.{ℕ, _+_, _-_, _*_, _/_, _%_, _^_, min}
+use Prim.Native.Nat.{ℕ, _+_, _*_, _/_, _%_, _^_, min}
 use native.Mathlib.Omega.{arith}
 use borrow.Author.Tests.{eq-eqb, ne-eqb}
 use lib.Dec.{eqb, ltb}
-use lib.ListN.{length, drop}
+use lib.ListN.{length}
 use Rattle.octets.specs.Numbers.{Digits}
 use Rattle.packets.specs.Instruction.{isWrite, isVerified, headerSize}
+use Rattle.packets.specs.Header.{kindIn}
 use Rattle.packets.specs.Reading.{numberOf}
-use Rattle.packets.specs.Reply.{replyOf}
 use Rattle.packets.specs.declared.instruction.Kind.{Kind}
 use Rattle.packets.specs.declared.instruction.Kind.the-variants.{Unused, Read, ReadModifyWrite, Write}
 use Rattle.packets.specs.declared.header.Header.{Header}
 use Rattle.packets.specs.declared.path.Path.{Path}
-use Rattle.packets.specs.declared.reading.End.{End}
 use Rattle.packets.specs.declared.reading.Refusal.{Refusal}
 use Rattle.packets.specs.declared.reading.Refusal.the-variants.{Incomplete, UnknownProtocol, ExtendedProtocol, Reply, HeaderCrc}
 use Rattle.unit.specs.Some.{some}
@@ -26,17 +25,19 @@ use Rattle.unit.specs.Clock.{timeCodeWritten}
 use Rattle.unit.specs.Owner.{swapped}
 use Rattle.unit.specs.Fields.{dividerWritten}
 use Rattle.unit.specs.Usable.{usable}
-use Rattle.unit.specs.Decide.{kindIn, rmwCount, headerStatus, wantedCount, dataStatus}
-use Rattle.unit.specs.Plan.{actionOf, memoryAction, fieldAction, decided}
+use Rattle.unit.specs.Given.{Arrived, Lent}
+use Rattle.unit.specs.Decide.{rmwCount, headerStatus, wantedCount, allAtHand, dataCount, dataStatusOf}
+use Rattle.unit.specs.Plan.{actionOf, memoryAction}
 use Rattle.unit.specs.Act.{stored, dataFor, changed, countedUnit, withClock, withCounters, withFields, withOwner}
-use Rattle.unit.specs.Calls.{Outcome, takeCommand}
+use Rattle.unit.specs.Calls.{Outcome}
 use Rattle.unit.specs.declared.fate.Status.{Status}
 use Rattle.unit.specs.declared.fate.Fate.{Fate}
 use Rattle.unit.specs.declared.fate.Fate.the-variants.{Unread, Obeyed, Replied}
 use Rattle.unit.specs.declared.unit.Unit.{Unit as TheUnit}
-use Rattle.unit.proofs.ReplyLaws.{reply-written}
-use Rattle.unit.proofs.CommandLaws.{packets-are, Answers, command-is, field-changes}
+use Rattle.unit.proofs.ReplyLaws.{replyIn, reply-written}
+use Rattle.unit.proofs.CommandLaws.{takeCommand, packets-are, Answers, command-is, field-changes}
 use Rattle.unit.proofs.MemoryLaws.{nothing-stores, read-stores, rmw-stores, write-stores, refused-stores}
+use Rattle.unit.proofs.PlanLaws.{memoryActionIn, fieldActionIn}
 use Rattle.unit.proofs.DecideLaws.{writes, write-bit-is, header-gives, data-refuses}
 use Rattle.packets.proofs.ReadingLaws.{header-whole, protocol-other, length-below}
 use Rattle.demands.specs.Terminal.{ours, IsCommand, pathIn}
@@ -93,51 +94,51 @@ only-ownable number f u v c only =
 -- ---- what a command leaves in memory
 
 -- obeyed
-obeyed-memory : (kind : Kind) (h : Header) (s : Status) (p m : List ℕ) → isSuccess s ≡ true
-    → stored (actionOf kind h s (headerSize (h .instruction)) (length p - headerSize (h .instruction))) p m ≡ obeyedOn kind h p m
-obeyed-memory Unused h s p m e = nothing-stores p m
-obeyed-memory Read h s p m e = read-stores (h .instruction) s (h .address) (h .length) p m
-obeyed-memory ReadModifyWrite h s p m e = rmw-stores s (h .address) (headerSize (h .instruction)) (rmwCount h) p m ∙ rw e
-obeyed-memory Write h s p m e =
-    write-stores (h .instruction) s (h .address) (headerSize (h .instruction)) (min (length p - headerSize (h .instruction)) (h .length)) p m
+obeyed-memory : (kind : Kind) (h : Header) (s : Status) (p : Arrived) (lent : Lent) → isSuccess s ≡ true
+    → stored (actionOf kind h s (headerSize (h .instruction)) (dataCount h (allAtHand h p))) (p .packet) (lent .memory) ≡ obeyedOn kind h p lent
+obeyed-memory Unused h s p lent e = nothing-stores (p .packet) (lent .memory)
+obeyed-memory Read h s p lent e = read-stores (h .instruction) s (h .address) (h .length) (p .packet) (lent .memory)
+obeyed-memory ReadModifyWrite h s p lent e = rmw-stores s (h .address) (headerSize (h .instruction)) (rmwCount h) (p .packet) (lent .memory) ∙ rw e
+obeyed-memory Write h s p lent e =
+    write-stores (h .instruction) s (h .address) (headerSize (h .instruction)) (min (dataCount h (allAtHand h p)) (h .length)) (p .packet) (lent .memory)
     ∙ rw e (go (isVerified (h .instruction)))
   where
-    go : (v : Bool) → cond (v && false) m (writtenTo h p m) ≡ writtenTo h p m
+    go : (v : Bool) → cond (v && false) (lent .memory) (writtenTo h p lent) ≡ writtenTo h p lent
     go true = refl
     go false = refl
 
 -- refused, by its data
-refused-memory : (h : Header) (s : Status) (p m : List ℕ) → h .protocol ≡ 0x01 → isSuccess s ≡ false → some (eqb (byteOf s)) (4 ∷ 5 ∷ 6 ∷ 7 ∷ []) ≡ true
-    → stored (memoryAction h s (headerSize (h .instruction)) (length p - headerSize (h .instruction))) p m ≡ refusedOn h s p m
-refused-memory h s p m e f g =
-    refused-stores (kindIn h) h s p m (headerSize (h .instruction)) (length p - headerSize (h .instruction)) f
+refused-memory : (h : Header) (s : Status) (p : Arrived) (lent : Lent) → h .protocol ≡ 0x01 → isSuccess s ≡ false → some (eqb (byteOf s)) (4 ∷ 5 ∷ 6 ∷ 7 ∷ []) ≡ true
+    → stored (memoryAction h s (headerSize (h .instruction)) (dataCount h (allAtHand h p))) (p .packet) (lent .memory) ≡ refusedOn h s p lent
+refused-memory h s p lent e f g =
+    refused-stores (kindIn h) h s (p .packet) (lent .memory) (headerSize (h .instruction)) (dataCount h (allAtHand h p)) f
     ∙ rw (eq-eqb (h .protocol) 0x01 e, g, write-bit-is h, and-true (writes (kindIn h) && not (isVerified (h .instruction))))
 
 -- refused by its header, or a field command
-header-memory : (h : Header) (s : Status) (p m : List ℕ) → some (eqb (byteOf s)) (4 ∷ 5 ∷ 6 ∷ 7 ∷ []) ≡ false → m ≡ refusedOn h s p m
-header-memory h s p m g = rw (g, and-false (eqb (h .protocol) 0x01 && isWrite (h .instruction) && not (isVerified (h .instruction))))
+header-memory : (h : Header) (s : Status) (p : Arrived) (lent : Lent) → some (eqb (byteOf s)) (4 ∷ 5 ∷ 6 ∷ 7 ∷ []) ≡ false → lent .memory ≡ refusedOn h s p lent
+header-memory h s p lent g = rw (g, and-false (eqb (h .protocol) 0x01 && isWrite (h .instruction) && not (isVerified (h .instruction))))
 
-field-memory : (h : Header) (s : Status) (p m : List ℕ) → (h .protocol ≡ 0x01 → ⊥) → m ≡ refusedOn h s p m
-field-memory h s p m e = rw (ne-eqb (h .protocol) 0x01 e)
+field-memory : (h : Header) (s : Status) (p : Arrived) (lent : Lent) → (h .protocol ≡ 0x01 → ⊥) → lent .memory ≡ refusedOn h s p lent
+field-memory h s p lent e = rw (ne-eqb (h .protocol) 0x01 e)
 
 -- ---- a command
 
-module _ (u : TheUnit) (p : List ℕ) (end : End) (link : ℕ) (m r : List ℕ) (h : Header) (read : IsCommand u p h) where
+module _ (u : TheUnit) (p : Arrived) (lent : Lent) (h : Header) (read : IsCommand u p h) where
   abbrev path : Path
   path = pathIn u p
 
   -- where the fate is 20 the reply stands in the buffer
   abbrev Row : Outcome → Type 0
-  Row o = (fateNumber (o .answer .fate) ≡ 20 → Written r o) → Leaves (o .answer .fate) u p end link m r o
+  Row o = (fateNumber (o .answer .fate) ≡ 20 → Written lent o) → Leaves (o .answer .fate) u p lent o
 
   abbrev Rows : Status → TheUnit → List ℕ → List ℕ → Type 0
-  Rows = Answers u h path p end link m r Row
+  Rows = Answers u h path p lent Row
 
   abbrev first : Status
-  first = headerStatus u h path link
+  first = headerStatus u h path (p .link)
 
   -- refused: the unit is counted, whether there is a reply or not
-  refused-row : (s : Status) (n d : List ℕ) → isSuccess s ≡ false → s ≡ statusDue u p h end link → n ≡ refusedOn h s p m → Rows s u n d
+  refused-row : (s : Status) (n d : List ℕ) → isSuccess s ≡ false → s ≡ statusDue u p h → n ≡ refusedOn h s p lent → Rows s u n d
   unfolding countedFor
   refused-row s n d e due memory = (
     λ w written. (λ f. absurd (false≢true (sym e ∙ f)), λ f. (h, read, w, due, e, refl, memory), written refl),
@@ -145,77 +146,76 @@ module _ (u : TheUnit) (p : List ℕ) (end : End) (link : ℕ) (m r : List ℕ) 
   )
 
   -- obeyed, on memory and on fields
-  memory-done : (s : Status) (n d : List ℕ) → isSuccess s ≡ true → s ≡ statusDue u p h end link → h .protocol ≡ 0x01 → n ≡ obeyedOn (kindIn h) h p m → Rows s u n d
+  memory-done : (s : Status) (n d : List ℕ) → isSuccess s ≡ true → s ≡ statusDue u p h → h .protocol ≡ 0x01 → n ≡ obeyedOn (kindIn h) h p lent → Rows s u n d
   unfolding countedFor
   memory-done s n d e due q memory = (
     λ w written. (λ f. (h, read, w, rw due at e, inl (q, refl, memory)), λ f. absurd (false≢true (sym f ∙ e)), written refl),
     λ w. rw e (λ written. ((h, read, w, rw due at e, inl (q, refl, memory)), (refl, refl))),
   )
 
-  fields-done : (s : Status) (v : TheUnit) (d : List ℕ) → isSuccess s ≡ true → s ≡ statusDue u p h end link → (h .protocol ≡ 0x01 → ⊥) → v ≡ withOwnable u v → Rows s v m d
+  fields-done : (s : Status) (v : TheUnit) (d : List ℕ) → isSuccess s ≡ true → s ≡ statusDue u p h → (h .protocol ≡ 0x01 → ⊥) → v ≡ withOwnable u v → Rows s v (lent .memory) d
   fields-done s v d e due q only = (
     λ w written. (
-      λ f. (h, read, w, rw due at e, inr (protocol-other p (u .number) h read q, only-ownable 20 (Replied s) u v (replied-counted s u) only, refl)),
+      λ f. (h, read, w, rw due at e, inr (protocol-other (p .packet) (u .number) h read q, only-ownable 20 (Replied s) u v (replied-counted s u) only, refl)),
       λ f. absurd (false≢true (sym f ∙ e)),
       written refl,
     ),
     λ w. rw e (λ written. (
-      (h, read, w, rw due at e, inr (protocol-other p (u .number) h read q, only-ownable 18 Obeyed u v (obeyed-counted u) only, refl)),
+      (h, read, w, rw due at e, inr (protocol-other (p .packet) (u .number) h read q, only-ownable 18 Obeyed u v (obeyed-counted u) only, refl)),
       (refl, refl),
     )),
   )
 
-  abbrev from : ℕ
-  from = headerSize (h .instruction)
-
   abbrev status : Status
-  status = dataStatus (drop from p) (wantedCount h) end
+  status = dataStatusOf h p
 
   -- past the header the data decide
   module _ (accepted : isSuccess first ≡ true) where
-    due : status ≡ statusDue u p h end link
+    due : status ≡ statusDue u p h
     due = rw accepted
 
-    memory-row : h .protocol ≡ 0x01
-        → Rows status u (stored (memoryAction h status from (length p - from)) p m) (dataFor (memoryAction h status from (length p - from)) u link m)
+    abbrev MemoryRow : Type 0
+    MemoryRow = Rows status u (stored (memoryActionIn h p) (p .packet) (lent .memory)) (dataFor (memoryActionIn h p) u (p .link) (lent .memory))
+
+    memory-row : h .protocol ≡ 0x01 → MemoryRow
     memory-row e = go (isSuccess status) refl
       where
-        go : (t : Bool) → isSuccess status ≡ t
-            → Rows status u (stored (memoryAction h status from (length p - from)) p m) (dataFor (memoryAction h status from (length p - from)) u link m)
-        go true f = memory-done status _ _ f due e (obeyed-memory (kindIn h) h status p m f)
-        go false f = refused-row status _ _ f due (refused-memory h status p m e f (data-refuses (drop from p) (wantedCount h) end f))
+        go : (t : Bool) → isSuccess status ≡ t → MemoryRow
+        go true f = memory-done status _ _ f due e (obeyed-memory (kindIn h) h status p lent f)
+        go false f =
+            refused-row status _ _ f due
+            (refused-memory h status p lent e f (data-refuses (dataCount h (allAtHand h p)) (allAtHand h p .dataCrc) (wantedCount h) (p .end) f))
 
     fields-row : (h .protocol ≡ 0x01 → ⊥)
-        → Rows status (changed (fieldAction h status p from) u (h .initiator) path link) m (dataFor (fieldAction h status p from) u link m)
+        → Rows status (changed (fieldActionIn h p) u (h .initiator) path (p .link)) (lent .memory) (dataFor (fieldActionIn h p) u (p .link) (lent .memory))
     fields-row e =
-        field-changes u h path p link from (λ v. Rows status v m d) (isSuccess status) (kindIn h) (same (isSuccess status) refl)
-        (λ new expected t k. fields-done status (withOwner u (swapped (u .owner) new expected (h .initiator) path link)) d t due e refl)
+        field-changes u h path (p .packet) (p .link) (headerSize (h .instruction)) (λ v. Rows status v (lent .memory) d) (isSuccess status) (kindIn h) (same (isSuccess status) refl)
+        (λ new expected t k. fields-done status (withOwner u (swapped (u .owner) new expected (h .initiator) path (p .link))) d t due e refl)
         (λ word t k. (
           fields-done status (withClock u (timeCodeWritten (u .clock) word)) d t due e (code-only u word),
           fields-done status (withFields u (dividerWritten (u .fields) word)) d t due e (divider-only u word),
         ))
       where
         d : List ℕ
-        d = dataFor (fieldAction h status p from) u link m
+        d = dataFor (fieldActionIn h p) u (p .link) (lent .memory)
 
-        same : (t : Bool) → isSuccess status ≡ t → Rows status u m d
+        same : (t : Bool) → isSuccess status ≡ t → Rows status u (lent .memory) d
         same true t = fields-done status u d t due e refl
-        same false t = refused-row status m d t due (field-memory h status p m e)
+        same false t = refused-row status (lent .memory) d t due (field-memory h status p lent e)
 
   -- what the reply holds
-  written : usable u (length m) ≡ true → Digits 256 p → fateNumber (takeCommand u h path p end link m r .answer .fate) ≡ 20
-      → Written r (takeCommand u h path p end link m r)
+  written : usable u (length (lent .memory)) ≡ true → Digits 256 (p .packet) → fateNumber (takeCommand u h path p lent .answer .fate) ≡ 20
+      → Written lent (takeCommand u h path p lent)
   unfolding takeCommand
   written works bytes n =
-      let w = reply-written u h path p end link m r works (header-whole p (u .number) h read) (length-below p (u .number) h read bytes) n in
-      let plan = decided u h path p end link (length r) in
-      (replyOf path h (byteOf (plan .status)) (dataFor (plan .action) u link m), w .1, w .0, omega (arith, w .0, w .2))
+      let w = reply-written u h path p lent works (header-whole (p .packet) (u .number) h read) (length-below (p .packet) (u .number) h read bytes) n in
+      (replyIn u h path p lent, w .1, w .0, omega (arith, w .0, w .2))
 
-  command-row : usable u (length m) ≡ true → Digits 256 p
-      → Leaves (takeCommand u h path p end link m r .answer .fate) u p end link m r (takeCommand u h path p end link m r)
+  command-row : usable u (length (lent .memory)) ≡ true → Digits 256 (p .packet)
+      → Leaves (takeCommand u h path p lent .answer .fate) u p lent (takeCommand u h path p lent)
   command-row works bytes =
-      command-is u h path p end link m r Row (λ w. (refl, refl, (refl, refl)))
-      (λ e. refused-row first m [] e (rw e) (header-memory h first p m (header-gives u h path link))) (λ q a. memory-row a q) (λ q a. fields-row a q)
+      command-is u h path p lent Row (λ w. (refl, refl, (refl, refl)))
+      (λ e. refused-row first (lent .memory) [] e (rw e) (header-memory h first p lent (header-gives u h path (p .link)))) (λ q a. memory-row a q) (λ q a. fields-row a q)
       (written works bytes)
 
 -- ---- every packet
@@ -230,11 +230,11 @@ unread-counted HeaderCrc u = refl
 
 pub row-by-row : RowByRow ours
 unfolding countedFor
-row-by-row u p end link m r bytes =
-    packets-are u p end link m m r refl (λ o o′. Leaves (o .answer .fate) u p end link m r o)
+row-by-row u p lent bytes =
+    packets-are u p lent (lent .memory) refl (λ o o′. Leaves (o .answer .fate) u p lent o)
     (λ e. (refl, refl, (refl, refl)))
     (λ e f. (refl, refl, (refl, refl)))
     (λ e f why g. (g, (unread-counted why u, refl, (refl, refl))))
     (λ e f g w. ((g, w), (refl, refl, (refl, refl))))
     (λ e f g t w. (t, (g, w), refl, refl, (refl, refl)))
-    (λ e f h g. command-row u p end link m r h g e bytes)
+    (λ e f h g. command-row u p lent h g e bytes)

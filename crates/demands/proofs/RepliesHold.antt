@@ -2,35 +2,36 @@
 use mathlib.Core.Path.{_≡_, refl, _∙_, ap}
 use mathlib.Core.Bool.{Bool, true, false, cond, not, _&&_}
 use mathlib.Core.List.{List, [], _∷_, _++_}
-use Prim.Native.Nat.{ℕ, _-_, min}
+use Prim.Native.Nat.{ℕ, min}
 use native.Mathlib.Omega.{arith}
 use borrow.Author.Tests.{eq-eqb, ne-eqb}
 use lib.Dec.{eqb}
-use lib.ListN.{length, drop}
+use lib.ListN.{length}
 use Rattle.octets.specs.Places.{placed}
 use Rattle.octets.specs.Numbers.{Digits, bytesOf}
 use Rattle.octets.specs.Crc.{crc, withCrc}
 use Rattle.octets.proofs.CrcLaws.{crc-none, crc-checked}
 use Rattle.packets.specs.Instruction.{isWrite, headerSize}
+use Rattle.packets.specs.Header.{kindIn}
 use Rattle.packets.specs.Path.{pathBytes}
 use Rattle.packets.specs.Reply.{replyStart, replyHead, replyWith, carried, replyOf}
 use Rattle.packets.specs.declared.instruction.Kind.{Kind}
 use Rattle.packets.specs.declared.instruction.Kind.the-variants.{Unused, Read, ReadModifyWrite, Write}
 use Rattle.packets.specs.declared.header.Header.{Header}
-use Rattle.packets.specs.declared.reading.End.{End}
 use Rattle.unit.specs.Fate.{byteOf, isSuccess, fateNumber}
 use Rattle.unit.specs.Usable.{usable}
-use Rattle.unit.specs.Decide.{kindIn, rmwCount, wantedCount, dataStatus}
+use Rattle.unit.specs.Given.{Arrived, Lent}
+use Rattle.unit.specs.Decide.{rmwCount, allAtHand, dataCount, dataStatusOf}
 use Rattle.unit.specs.Plan.{actionOf, fieldActionOf, decided}
 use Rattle.unit.specs.Act.{dataFor}
-use Rattle.unit.specs.Calls.{Outcome, takeCommand}
+use Rattle.unit.specs.Calls.{Outcome}
 use Rattle.unit.specs.declared.fate.Status.{Status}
 use Rattle.unit.specs.declared.fate.Fate.the-variants.{Replied}
 use Rattle.unit.specs.declared.unit.Unit.{Unit as TheUnit}
 use Rattle.unit.proofs.FateLaws.{unread-number}
 use Rattle.unit.proofs.PlanLaws.{replied-plan, carried-plan}
 use Rattle.unit.proofs.ReplyLaws.{reply-written}
-use Rattle.unit.proofs.CommandLaws.{packet-is}
+use Rattle.unit.proofs.CommandLaws.{takeCommand, packet-is}
 use Rattle.unit.proofs.MemoryLaws.{read-data, rmw-data, write-data}
 use Rattle.packets.proofs.ReadingLaws.{header-whole, length-below}
 use Rattle.demands.specs.Terminal.{ours, IsCommand, pathIn}
@@ -67,19 +68,16 @@ field-data Read u h link p from m = refl
 field-data ReadModifyWrite u h link p from m = refl
 field-data Write u h link p from m = refl
 
-module _ (u : TheUnit) (p : List ℕ) (end : End) (link : ℕ) (m r : List ℕ) (s : Status) (bytes : Digits 256 p) where
+module _ (u : TheUnit) (p : Arrived) (lent : Lent) (s : Status) (bytes : Digits 256 (p .packet)) where
   abbrev Says : Outcome → Type 0
-  Says o = o .answer .fate ≡ Replied s → ReplyBytes u p link m r s o
+  Says o = o .answer .fate ≡ Replied s → ReplyBytes u p lent s o
 
   module _ (h : Header) (read : IsCommand u p h) where
     abbrev answered : List ℕ
-    answered = cond (eqb (h .protocol) 0x01) (memoryData (kindIn h) h m) (fieldData (kindIn h) u h link)
-
-    abbrev from : ℕ
-    from = headerSize (h .instruction)
+    answered = cond (eqb (h .protocol) 0x01) (memoryData (kindIn h) h (lent .memory)) (fieldData (kindIn h) u h (p .link))
 
     -- what is carried is what is due
-    due : (d : List ℕ) → (isSuccess s ≡ true → d ≡ answered) → carried h (byteOf s) d ≡ dataDue u h s link m
+    due : (d : List ℕ) → (isSuccess s ≡ true → d ≡ answered) → carried h (byteOf s) d ≡ dataDue u p lent h s
     due d f = go (isWrite (h .instruction)) (isSuccess s) refl
       where
         go : (w t : Bool) → isSuccess s ≡ t → cond (not w && t) d [] ≡ cond (not w && t) answered []
@@ -87,33 +85,34 @@ module _ (u : TheUnit) (p : List ℕ) (end : End) (link : ℕ) (m r : List ℕ) 
         go false true e = f e
         go false false e = refl
 
-    command-says : usable u (length m) ≡ true → Says (takeCommand u h (pathIn u p) p end link m r)
+    command-says : usable u (length (lent .memory)) ≡ true → Says (takeCommand u h (pathIn u p) p lent)
     unfolding takeCommand replyWith
     command-says works e =
         let path = pathIn u p in
-        let plan = decided u h path p end link (length r) in
-        let d = dataFor (plan .action) u link m in
-        let w = reply-written u h path p end link m r works (header-whole p (u .number) h read) (length-below p (u .number) h read bytes) (ap fateNumber e) in
-        let t = replied-plan u h path p end link (length r) s e in
-        let same : carried h (byteOf s) d ≡ dataDue u h s link m = due d (λ f.
-        carried-plan u h path p end link (length r) (λ a. dataFor a u link m ≡ answered)
-        (λ q g. memory-data (kindIn h) u h link (dataStatus (drop from p) (wantedCount h) end) from (length p - from) m g ∙ rw (eq-eqb (h .protocol) 0x01 q))
-        (λ q g. rw (g, ne-eqb (h .protocol) 0x01 q) (field-data (kindIn h) u h link p from m))
+        let plan = decided u h path p (length (lent .reply)) in
+        let d = dataFor (plan .action) u (p .link) (lent .memory) in
+        let w = reply-written u h path p lent works (header-whole (p .packet) (u .number) h read) (length-below (p .packet) (u .number) h read bytes) (ap fateNumber e) in
+        let t = replied-plan u h path (allAtHand h p) (p .end) (p .link) (length (lent .reply)) s e in
+        let same : carried h (byteOf s) d ≡ dataDue u p lent h s = due d (λ f.
+        carried-plan u h path (allAtHand h p) (p .end) (p .link) (length (lent .reply)) (λ a. dataFor a u (p .link) (lent .memory) ≡ answered)
+        (λ q g. memory-data (kindIn h) u h (p .link) (dataStatusOf h p) (headerSize (h .instruction)) (dataCount h (allAtHand h p)) (lent .memory) g
+        ∙ rw (eq-eqb (h .protocol) 0x01 q))
+        (λ q g. rw (g, ne-eqb (h .protocol) 0x01 q) (field-data (kindIn h) u h (p .link) (p .packet) (headerSize (h .instruction)) (lent .memory)))
         (ap fateNumber e) (rw (t .0) f)) in
-        let reply : replyOf path h (byteOf (plan .status)) d ≡ pathBytes path ++ headPart h s (dataDue u h s link m) ++ dataPart h (dataDue u h s link m) =
+        let reply : replyOf path h (byteOf (plan .status)) d ≡ pathBytes path ++ headPart h s (dataDue u p lent h s) ++ dataPart h (dataDue u p lent h s) =
         ap (λ (x : Status). replyOf path h (byteOf x) d) (t .0) ∙ ap (λ (c : List ℕ). replyWith path h (byteOf s) c) same in (
           h,
           read,
           t .1,
-          w .1 ∙ ap (λ (b : List ℕ). placed 0 b r) reply,
+          w .1 ∙ ap (λ (b : List ℕ). placed 0 b (lent .reply)) reply,
           w .0 ∙ ap length reply,
-          head-checked h (byteOf s) (length (dataDue u h s link m)),
-          data-checked (isWrite (h .instruction)) (dataDue u h s link m),
+          head-checked h (byteOf s) (length (dataDue u p lent h s)),
+          data-checked (isWrite (h .instruction)) (dataDue u p lent h s),
         )
 
 pub replies : Replies ours
-replies u p end link m r s bytes =
-    packet-is u p end link m r (Says u p end link m r s bytes)
+replies u p lent s bytes =
+    packet-is u p lent (Says u p lent s bytes)
     (λ e n. absurd (omega (arith, ap fateNumber n))) (λ e f n. absurd (omega (arith, ap fateNumber n)))
     (λ e f why g n. absurd (omega (arith, unread-number why .1, ap fateNumber n))) (λ e f g n. absurd (omega (arith, ap fateNumber n)))
-    (λ e f g t n. absurd (omega (arith, ap fateNumber n))) (λ e f h g. command-says u p end link m r s bytes h g e)
+    (λ e f g t n. absurd (omega (arith, ap fateNumber n))) (λ e f h g. command-says u p lent s bytes h g e)

@@ -7,49 +7,49 @@ use Rattle.packets.specs.Path.{withoutLeadingZeros, orOneZero, pathOf}
 use Rattle.packets.specs.Reading.{readCommand, readProtocol, readPacket}
 use Rattle.packets.specs.Reply.{replyWith, replyLength, replied}
 use Rattle.packets.specs.Time.{readTime}
-use Rattle.packets.specs.declared.reading.End.the-variants.{Eop}
 use Rattle.unit.specs.Counters.{countedFor}
 use Rattle.unit.specs.Clock.{afterTime}
 use Rattle.unit.specs.Usable.{usableUnit, usable}
 use Rattle.unit.specs.Decide.{openingStatus, spanSize, isAuthorised, spanStatus, headerStatus, wantedCount, dataStatus}
-use Rattle.unit.specs.Plan.{replyCount, plannedFor, decidedByData, decided}
+use Rattle.unit.specs.Plan.{replyCount, plannedFor, decidedByData, decidedOn}
+use Rattle.unit.specs.Judge.{judged}
 use Rattle.unit.specs.Act.{stored, dataFor, repliedTo, changed}
-use Rattle.unit.specs.Calls.{takeCommand, takePacket}
-use Rattle.demands.proofs.Witnesses.{unit, memory, buffer, write-0, wrong-crc, unused-code, silent-write, time}
+use Rattle.unit.specs.Calls.{takePacket}
+use Rattle.demands.proofs.Witnesses.{unit, memory, buffer, arrived, lent, write-0, wrong-crc, unused-code, silent-write, time}
 use Rattle.demands.specs.Terminal.{ours}
 use Rattle.demands.specs.Refusals.{NoRowEmpty}
 
 pub no-row-empty : NoRowEmpty ours
-unfolding takePacket takeCommand decided decidedByData plannedFor headerStatus openingStatus spanStatus spanSize isAuthorised wantedCount dataStatus replyCount stored dataFor repliedTo changed countedFor usable usableUnit readPacket readProtocol readCommand readTime afterTime kindOf withoutLeadingZeros orOneZero pathOf replyLength replied replyWith crc mirrored bits remainder message modulo
+unfolding takePacket judged decidedOn decidedByData plannedFor headerStatus openingStatus spanStatus spanSize isAuthorised wantedCount dataStatus replyCount stored dataFor repliedTo changed countedFor usable usableUnit readPacket readProtocol readCommand readTime afterTime kindOf withoutLeadingZeros orOneZero pathOf replyLength replied replyWith crc mirrored bits remainder message modulo
 no-row-empty = (
   -- 1 no memory; 2 link 0; 3 no room
-  (unit 0, write-0, Eop, 1, [], buffer, refl),
+  (unit 0, arrived write-0 1, lent [] buffer, refl),
   (
-    (unit 0, write-0, Eop, 0, memory, buffer, refl),
+    (unit 0, arrived write-0 0, lent memory buffer, refl),
     (
-      (unit 0, write-0, Eop, 1, memory, [], refl),
+      (unit 0, arrived write-0 1, lent memory [], refl),
       -- 11 to 15
       (
-        (unit 0, [], Eop, 1, memory, buffer, refl),
+        (unit 0, arrived [] 1, lent memory buffer, refl),
         (
-          (unit 0, 0xFE ∷ 0x07 ∷ [], Eop, 1, memory, buffer, refl),
+          (unit 0, arrived (0xFE ∷ 0x07 ∷ []) 1, lent memory buffer, refl),
           (
-            (unit 0, 0xFE ∷ 0x00 ∷ [], Eop, 1, memory, buffer, refl),
+            (unit 0, arrived (0xFE ∷ 0x00 ∷ []) 1, lent memory buffer, refl),
             (
-              (unit 0, 0xFE ∷ 0x01 ∷ 0x00 ∷ [], Eop, 1, memory, buffer, refl),
+              (unit 0, arrived (0xFE ∷ 0x01 ∷ 0x00 ∷ []) 1, lent memory buffer, refl),
               (
-                (unit 0, wrong-crc, Eop, 1, memory, buffer, refl),
+                (unit 0, arrived wrong-crc 1, lent memory buffer, refl),
                 -- 16 to 20
                 (
-                  (unit 0, 0xFE ∷ 0xF0 ∷ [], Eop, 1, memory, buffer, refl),
+                  (unit 0, arrived (0xFE ∷ 0xF0 ∷ []) 1, lent memory buffer, refl),
                   (
-                    (unit 0, unused-code, Eop, 1, memory, buffer, refl),
+                    (unit 0, arrived unused-code 1, lent memory buffer, refl),
                     (
-                      (unit 0, silent-write, Eop, 1, memory, buffer, refl),
+                      (unit 0, arrived silent-write 1, lent memory buffer, refl),
                       (
-                        (unit 0, time, Eop, 1, memory, buffer, refl),
+                        (unit 0, arrived time 1, lent memory buffer, refl),
                         (
-                          (unit 0, write-0, Eop, 1, memory, buffer, refl),
+                          (unit 0, arrived write-0 1, lent memory buffer, refl),
                           tt,
                         ),
                       ),

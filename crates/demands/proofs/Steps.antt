@@ -1,58 +1,51 @@
 -- One RMAP command, as a step on memory: it tells and leaves what follows from the bytes that it refers to, stores to no other, and changes
 -- nothing of the unit but its counters.
 use mathlib.Core.Path.{_≡_, refl, sym, _∙_, ap}
-use mathlib.Core.Bool.{Bool, true, false, cond, not, _&&_, _||_, false≢true, or-true, and-false}
+use mathlib.Core.Bool.{Bool, true, false, cond, _&&_, _||_, false≢true, or-true, and-false}
 use mathlib.Core.Logic.{_⊎_, inl, inr}
 use mathlib.Core.List.{List}
-use Prim.Native.Nat.{ℕ, _+_, _-_, _<_, _≤_}
+use Prim.Native.Nat.{ℕ, _+_, _<_, _≤_}
 use borrow.Author.Tests.{leb-true, leb-false, ltb-true, ltb-false, le-leb, lt-ltb}
-use lib.Dec.{eqb, leb, ltb}
-use lib.ListN.{length, getD, drop}
-use Rattle.octets.specs.Crc.{crc}
+use lib.Dec.{leb, ltb}
+use lib.ListN.{length, getD}
 use Rattle.octets.proofs.PlaceLaws.{first-true, second-true}
-use Rattle.packets.specs.Instruction.{isWrite, headerSize}
-use Rattle.packets.specs.Reading.{readPacket, isEop}
+use Rattle.packets.specs.Instruction.{isRmw, isWrite, headerSize}
+use Rattle.packets.specs.Header.{kindIn}
+use Rattle.packets.specs.Reading.{readPacket}
 use Rattle.packets.specs.Reply.{replied}
 use Rattle.packets.specs.declared.instruction.Kind.the-variants.{ReadModifyWrite, Write}
 use Rattle.packets.specs.declared.header.Header.{Header}
 use Rattle.packets.specs.declared.path.Path.{Path}
-use Rattle.packets.specs.declared.reading.End.{End}
 use Rattle.packets.specs.declared.reading.Reading.{Reading}
 use Rattle.packets.specs.declared.reading.Reading.the-variants.{Command}
 use Rattle.unit.specs.Fate.{byteOf, isSuccess, fateStatus}
 use Rattle.unit.specs.Counters.{countedFor}
 use Rattle.unit.specs.Usable.{usable}
-use Rattle.unit.specs.Decide.{kindIn, isRmw, spanSize, headerStatus, wantedCount, dataStatus}
-use Rattle.unit.specs.Plan.{memoryAction, unansweredFate}
+use Rattle.unit.specs.Given.{Arrived, Lent}
+use Rattle.unit.specs.Decide.{spanSize, headerStatus, wantedCount, allAtHand, dataCount, dataStatusOf}
+use Rattle.unit.specs.Plan.{unansweredFate}
 use Rattle.unit.specs.Act.{stored, dataFor, countedUnit}
 use Rattle.unit.specs.Calls.{Outcome, takePacket}
 use Rattle.unit.specs.declared.fate.Status.{Status}
-use Rattle.unit.specs.declared.fate.Status.the-variants.{Success, EndedByEep, EarlyEop, TooMuchData, DataCrc}
 use Rattle.unit.specs.declared.fate.Fate.{Fate}
 use Rattle.unit.specs.declared.fate.Fate.the-variants.{NotObeyed, Obeyed, Replied}
 use Rattle.unit.specs.declared.fate.Told.the-variants.{Byte}
 use Rattle.unit.specs.declared.unit.Unit.{Unit as TheUnit}
-use Rattle.unit.proofs.CallLaws.{packet-length, by-length}
-use Rattle.unit.proofs.DecideLaws.{write-bit}
+use Rattle.unit.proofs.CallLaws.{packet-length, by-sizes}
+use Rattle.unit.proofs.DecideLaws.{write-bit, data-is}
+use Rattle.unit.proofs.PlanLaws.{memoryActionIn}
 use Rattle.unit.proofs.CommandLaws.{packets-are, packet-is, commands-are, command-is}
 use Rattle.unit.proofs.MemoryLaws.{memory-outside, span-data, span-stored, storing-kind}
 use Rattle.packets.proofs.ReadingLaws.{header-whole, protocol-read, no-time}
 use Rattle.demands.proofs.Weave.{Keeps}
 use Rattle.demands.specs.Terminal.{ours}
-use Rattle.demands.specs.Lists.{Sent, Rmap, State, Heard, heardOf, nextOf, refersToNone, inSpan, refers, isStore, stores}
+use Rattle.demands.specs.Lists.{Sent, Rmap, State, lentFor, Heard, heardOf, nextOf, refersToNone, inSpan, refers, isStore, stores}
 
 -- ---- a memory command whose header is accepted refers to its span, whatever its data
 
-data-refers : (bytes : List ℕ) (wanted : ℕ) (end : End) → refersToNone (Byte (byteOf (dataStatus bytes wanted end))) ≡ false
-unfolding dataStatus
-data-refers bytes wanted end = go (isEop end) (ltb (length bytes) wanted) (ltb wanted (length bytes)) (eqb (crc bytes) 0)
-  where
-    go : (a b c d : Bool) → refersToNone (Byte (byteOf (cond (not a) EndedByEep (cond b EarlyEop (cond c TooMuchData (cond (not d) DataCrc Success)))))) ≡ false
-    go false b c d = refl
-    go true true c d = refl
-    go true false true d = refl
-    go true false false true = refl
-    go true false false false = refl
+data-refers : (h : Header) (p : Arrived) → refersToNone (Byte (byteOf (dataStatusOf h p))) ≡ false
+data-refers h p =
+    data-is (λ s. refersToNone (Byte (byteOf s)) ≡ false) (dataCount h (allAtHand h p)) (allAtHand h p .dataCrc) (wantedCount h) (p .end) refl refl refl refl refl
 
 silent-refers : (s : Status) → refersToNone (Byte (byteOf s)) ≡ false → refersToNone (fateStatus (unansweredFate s)) ≡ false
 silent-refers s e = go (isSuccess s)
@@ -68,17 +61,17 @@ module _ (s : State) (c : Sent) (rmap : Rmap c) where
   u = s .unit
 
   abbrev on : List ℕ → Outcome
-  on m = takePacket u (c .packet) (c .end) (c .link) m (c .buffer)
+  on m = takePacket u (c .arrived) (lentFor c m)
 
   abbrev read : Reading
-  read = readPacket (c .packet) (u .number) .reading
+  read = readPacket (c .arrived .packet) (u .number) .reading
 
   abbrev path : Path
-  path = readPacket (c .packet) (u .number) .path
+  path = readPacket (c .arrived .packet) (u .number) .path
 
   -- fate and length of the reply are the same on every memory of one length
   pub same-fate : (m k : List ℕ) → length m ≡ length k → (on m .answer .fate ≡ on k .answer .fate) × (on m .answer .length ≡ on k .answer .length)
-  same-fate m k l = by-length u (c .packet) (c .end) (c .link) m k (c .buffer) l
+  same-fate m k l = by-sizes u (c .arrived) (lentFor c m) (lentFor c k) (ap (λ (n : ℕ). record { memory = n; reply = length (c .buffer) }) l)
 
   -- a command whose header was accepted, of some fate that it also has in s: the test of what it refers to is that of its span
   module _ (h : Header) (is : read ≡ Command h) (f : Fate) (refers-to : refersToNone (fateStatus f) ≡ false) (has : f ≡ on (s .memory) .answer .fate) where
@@ -101,23 +94,20 @@ module _ (s : State) (c : Sent) (rmap : Rmap c) where
       go true false f g e = inr (ltb-false i (h .address + spanSize h) g)
       go true true f g e = absurd (false≢true (sym e))
 
-  abbrev from : Header → ℕ
-  from h = headerSize (h .instruction)
-
   abbrev status : Header → Status
-  status h = dataStatus (drop (from h) (c .packet)) (wantedCount h) (c .end)
+  status h = dataStatusOf h (c .arrived)
 
   abbrev after : Header → List ℕ → List ℕ
-  after h m = stored (memoryAction h (status h) (from h) (length (c .packet) - from h)) (c .packet) m
+  after h m = stored (memoryActionIn h (c .arrived)) (c .arrived .packet) m
 
   spoken-refers : (h : Header) → refersToNone (fateStatus (Replied (status h))) ≡ false
-  spoken-refers h = data-refers (drop (from h) (c .packet)) (wantedCount h) (c .end)
+  spoken-refers h = data-refers h (c .arrived)
 
   -- every byte stays that it does not store to
   byte-stays : (m : List ℕ) → length m ≡ length (s .memory) → (i : ℕ) → stores s c i ≡ false → getD (on m .memory) i 0 ≡ getD m i 0
   byte-stays m l i kept =
-      packet-is u (c .packet) (c .end) (c .link) m (c .buffer) Q (λ e g. refl) (λ e f g. refl) (λ e f why b g. refl) (λ e f b g. refl) (λ e f b t g. refl)
-      (λ e f h b. command-is u h path (c .packet) (c .end) (c .link) m (c .buffer) Q (λ g. refl) (λ a. (λ w g. refl, λ w g. refl))
+      packet-is u (c .arrived) (lentFor c m) Q (λ e g. refl) (λ e f g. refl) (λ e f why b g. refl) (λ e f b g. refl) (λ e f b t g. refl)
+      (λ e f h b. command-is u h path (c .arrived) (lentFor c m) Q (λ g. refl) (λ a. (λ w g. refl, λ w g. refl))
       (λ p a. (λ w g. stays e h b p a (Replied (status h)) (spoken-refers h) g, λ w g. stays e h b p a (unansweredFate (status h)) (silent-refers (status h) (spoken-refers h)) g))
       (λ p a. (λ w g. refl, λ w g. refl)))
       (same-fate m (s .memory) l .0)
@@ -125,16 +115,16 @@ module _ (s : State) (c : Sent) (rmap : Rmap c) where
       Q : Outcome → Type 0
       Q o = o .answer .fate ≡ on (s .memory) .answer .fate → getD (o .memory) i 0 ≡ getD m i 0
 
-      stays : usable u (length m) ≡ true → (h : Header) → read ≡ Command h → h .protocol ≡ 0x01 → isSuccess (headerStatus u h path (c .link)) ≡ true
+      stays : usable u (length m) ≡ true → (h : Header) → read ≡ Command h → h .protocol ≡ 0x01 → isSuccess (headerStatus u h path (c .arrived .link)) ≡ true
           → (f : Fate) → refersToNone (fateStatus f) ≡ false → f ≡ on (s .memory) .answer .fate → getD (after h m) i 0 ≡ getD m i 0
       stays works h is rmap accepted f r has =
-          go (storing-kind (kindIn h) h (status h) (c .packet) m (from h) (length (c .packet) - from h)) (inSpan h i) refl (sym (stores-span h is f r has i) ∙ kept)
+          go (storing-kind (kindIn h) h (status h) (c .arrived .packet) m (headerSize (h .instruction)) (dataCount h (allAtHand h (c .arrived)))) (inSpan h i) refl (sym (stores-span h is f r has i) ∙ kept)
         where
           go : (after h m ≡ m) ⊎ ((kindIn h ≡ Write) ⊎ (kindIn h ≡ ReadModifyWrite)) → (t : Bool) → inSpan h i ≡ t
               → ((isWrite (h .instruction) || isRmw (kindIn h)) && t) ≡ false → getD (after h m) i 0 ≡ getD m i 0
           go (inl same) t e k = ap (λ (x : List ℕ). getD x i 0) same
           go (inr kind) false e k =
-              memory-outside u h path (c .packet) (c .end) (c .link) m works (header-whole (c .packet) (u .number) h is) rmap accepted i (outside h i e)
+              memory-outside u h path (c .arrived) m works (header-whole (c .arrived .packet) (u .number) h is) rmap accepted i (outside h i e)
           go (inr (inl kind)) true e k = absurd (false≢true (sym k ∙ rw (write-bit h kind)))
           go (inr (inr kind)) true e k = absurd (false≢true (sym k ∙ rw (kind, or-true (isWrite (h .instruction)))))
 
@@ -146,28 +136,27 @@ module _ (s : State) (c : Sent) (rmap : Rmap c) where
         o .answer .fate ≡ on (s .memory) .answer .fate
         → (o .reply ≡ o′ .reply) × ((i : ℕ) → refers s c i ≡ true → getD (o .memory) i 0 ≡ getD (o′ .memory) i 0)
 
-    module _ (works : usable u (length m) ≡ true) (h : Header) (is : read ≡ Command h) (accepted : isSuccess (headerStatus u h path (c .link)) ≡ true)
+    module _ (works : usable u (length m) ≡ true) (h : Header) (is : read ≡ Command h) (accepted : isSuccess (headerStatus u h path (c .arrived .link)) ≡ true)
         (f : Fate) (r : refersToNone (fateStatus f) ≡ false) (has : f ≡ on (s .memory) .answer .fate) (p : h .protocol ≡ 0x01) where
       in-alike : (i : ℕ) → h .address ≤ i → i < h .address + spanSize h → getD m i 0 ≡ getD k i 0
       in-alike i b l = alike i (refers-span h is f r has i ∙ in-span h i b l)
 
-      same-data : dataFor (memoryAction h (status h) (from h) (length (c .packet) - from h)) u (c .link) m
-          ≡ dataFor (memoryAction h (status h) (from h) (length (c .packet) - from h)) u (c .link) k
+      same-data : dataFor (memoryActionIn h (c .arrived)) u (c .arrived .link) m ≡ dataFor (memoryActionIn h (c .arrived)) u (c .arrived .link) k
       same-data =
-          span-data u h path (c .packet) (c .end) (c .link) m works (header-whole (c .packet) (u .number) h is) p accepted k (lm ∙ sym lk) in-alike
+          span-data u h path (c .arrived) m works (header-whole (c .arrived .packet) (u .number) h is) p accepted k (lm ∙ sym lk) in-alike
 
       same-bytes : (i : ℕ) → refers s c i ≡ true → getD (after h m) i 0 ≡ getD (after h k) i 0
       same-bytes i e =
           let there : inSpan h i ≡ true = sym (refers-span h is f r has i) ∙ e in
-          span-stored u h path (c .packet) (c .end) (c .link) m works (header-whole (c .packet) (u .number) h is) p accepted k (lm ∙ sym lk) in-alike i
+          span-stored u h path (c .arrived) m works (header-whole (c .arrived .packet) (u .number) h is) p accepted k (lm ∙ sym lk) in-alike i
           (leb-true (h .address) i (first-true (leb (h .address) i) (ltb i (h .address + spanSize h)) there))
           (ltb-true i (h .address + spanSize h) (second-true (leb (h .address) i) (ltb i (h .address + spanSize h)) there))
 
     same-outcome : (on m .reply ≡ on k .reply) × ((i : ℕ) → refers s c i ≡ true → getD (on m .memory) i 0 ≡ getD (on k .memory) i 0)
     same-outcome =
-        packets-are u (c .packet) (c .end) (c .link) m k (c .buffer) (lm ∙ sym lk) Same (λ e g. same) (λ e f g. same) (λ e f why b g. same) (λ e f b w g. same)
+        packets-are u (c .arrived) (lentFor c m) k (lm ∙ sym lk) Same (λ e g. same) (λ e f g. same) (λ e f why b g. same) (λ e f b w g. same)
         (λ e f b t w g. same)
-        (λ e f h b. commands-are u h path (c .packet) (c .end) (c .link) m k (c .buffer) Same (λ g. same) (λ a. (λ w g. same, λ w g. same))
+        (λ e f h b. commands-are u h path (c .arrived) (lentFor c m) k Same (λ g. same) (λ a. (λ w g. same, λ w g. same))
         (λ p a. (
           λ w g. (
             ap (λ (d : List ℕ). replied path h (byteOf (status h)) d (c .buffer)) (same-data e h b a (Replied (status h)) (spoken-refers h) g p),
@@ -175,7 +164,7 @@ module _ (s : State) (c : Sent) (rmap : Rmap c) where
           ),
           λ w g. (refl, same-bytes e h b a (unansweredFate (status h)) (silent-refers (status h) (spoken-refers h)) g p),
         ))
-        (λ p a. absurd (p (protocol-read (c .packet) (u .number) h b ∙ rmap))))
+        (λ p a. absurd (p (protocol-read (c .arrived .packet) (u .number) h b ∙ rmap))))
         (same-fate m (s .memory) lm .0)
       where
         same : {A : Type 0} {x : A} → (x ≡ x) × ((i : ℕ) → refers s c i ≡ true → getD m i 0 ≡ getD k i 0)
@@ -193,8 +182,8 @@ leaves s c m = nextOf ours (record { unit = s .unit; memory = m }) c .memory
 pub keeps : (s : State) (c : Sent) → Rmap c → Keeps (tells s) (leaves s) (refers s) (stores s) (length (s .memory)) c
 unfolding stores
 keeps s c rmap = record {
-  long = λ m l. packet-length (s .unit) (c .packet) (c .end) (c .link) m (c .buffer) .0 ∙ l;
-  within = λ i e. rw e (and-false (isStore (readPacket (c .packet) (s .unit .number) .reading)));
+  long = λ m l. packet-length (s .unit) (c .arrived) (lentFor c m) .0 ∙ l;
+  within = λ i e. rw e (and-false (isStore (readPacket (c .arrived .packet) (s .unit .number) .reading)));
   frame = λ m i l kept. byte-stays s c rmap m l i kept;
   same = λ m k lm lk alike.
       let f = same-fate s c rmap m k (lm ∙ sym lk) in
@@ -204,13 +193,13 @@ keeps s c rmap = record {
 }
 
 -- nothing of the unit changes but its counters
-pub only-counted : (u : TheUnit) (p : List ℕ) (end : End) (link : ℕ) (m r : List ℕ) → getD p 1 0 ≡ 0x01
-    → takePacket u p end link m r .answer .unit ≡ countedUnit (takePacket u p end link m r .answer .fate) u
+pub only-counted : (u : TheUnit) (p : Arrived) (lent : Lent) → getD (p .packet) 1 0 ≡ 0x01
+    → takePacket u p lent .answer .unit ≡ countedUnit (takePacket u p lent .answer .fate) u
 unfolding countedFor
-only-counted u p end link m r rmap =
-    packet-is u p end link m r Q (λ e. refl) (λ e f. refl) (λ e f why g. refl) (λ e f g. refl) (λ e f g t. absurd (no-time p (u .number) rmap g))
-    (λ e f h g. command-is u h (readPacket p (u .number) .path) p end link m r Q refl (λ a. (λ w. refl, λ w. refl)) (λ q a. (λ w. refl, λ w. refl))
-    (λ q a. absurd (q (protocol-read p (u .number) h g ∙ rmap))))
+only-counted u p lent rmap =
+    packet-is u p lent Q (λ e. refl) (λ e f. refl) (λ e f why g. refl) (λ e f g. refl) (λ e f g t. absurd (no-time (p .packet) (u .number) rmap g))
+    (λ e f h g. command-is u h (readPacket (p .packet) (u .number) .path) p lent Q refl (λ a. (λ w. refl, λ w. refl)) (λ q a. (λ w. refl, λ w. refl))
+    (λ q a. absurd (q (protocol-read (p .packet) (u .number) h g ∙ rmap))))
   where
     Q : Outcome → Type 0
     Q o = o .answer .unit ≡ countedUnit (o .answer .fate) u

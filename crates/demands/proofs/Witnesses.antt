@@ -3,6 +3,8 @@ use mathlib.Core.Bool.{true, false}
 use mathlib.Core.List.{List, [], _∷_}
 use Prim.Native.Nat.{ℕ}
 use lib.ListN.{replicate}
+use Rattle.packets.specs.declared.reading.End.the-variants.{Eop}
+use Rattle.unit.specs.Given.{Arrived, Lent}
 use Rattle.unit.specs.declared.clock.Waiting.the-variants.{NoValue}
 use Rattle.unit.specs.declared.windows.Window.{Window}
 use Rattle.unit.specs.declared.unit.Unit.{Unit as TheUnit}
@@ -41,6 +43,13 @@ memory = replicate 8 0x10
 
 abbrev pub buffer : List ℕ
 buffer = replicate 20 0xEE
+
+-- a packet that ended by EOP, on a link; and what is lent
+abbrev pub arrived : List ℕ → ℕ → Arrived
+arrived p link = record { packet = p; end = Eop; link = link }
+
+abbrev pub lent : List ℕ → List ℕ → Lent
+lent m r = record { memory = m; reply = r }
 
 -- a write of 61 62 at 0, one of 63 64 at 4, and a read that passes the end of memory by one
 abbrev pub write-0 : List ℕ

@@ -6,14 +6,15 @@ use mathlib.Core.List.{List}
 use Prim.Native.Nat.{ℕ, _+_, _<_, _≤_}
 use lib.ListN.{length, getD}
 use Rattle.octets.specs.Numbers.{Digits}
-use Rattle.packets.specs.Instruction.{isWrite}
+use Rattle.packets.specs.Instruction.{isWrite, isRmw}
+use Rattle.packets.specs.Header.{kindIn}
 use Rattle.packets.specs.declared.header.Header.{Header}
-use Rattle.packets.specs.declared.reading.End.{End}
 use Rattle.unit.specs.Some.{some}
 use Rattle.unit.specs.Fate.{fateNumber}
 use Rattle.unit.specs.Windows.{holds, used}
 use Rattle.unit.specs.Usable.{usable}
-use Rattle.unit.specs.Decide.{kindIn, isRmw, spanSize}
+use Rattle.unit.specs.Decide.{spanSize}
+use Rattle.unit.specs.Given.{Arrived, Lent}
 use Rattle.unit.specs.Calls.{Outcome}
 use Rattle.unit.specs.declared.unit.Unit.{Unit as TheUnit}
 use Rattle.demands.specs.Terminal.{Terminal, IsCommand, Call, packet, timeCode, ticks, after, fatesOf, Every}
@@ -25,9 +26,9 @@ abbrev pub WindowForWriting : TheUnit → Header → Type 0
 WindowForWriting u h = some (λ w. holds w (h .address) (spanSize h) && w .write) (used (u .windows)) ≡ true
 
 -- Where byte i of memory is not what it was, the packet is an RMAP write or RMW, i is in its span, and such a window holds that span.
-abbrev pub OnlyInWindow : TheUnit → List ℕ → List ℕ → Outcome → Type 0
-OnlyInWindow u p m o =
-    (i : ℕ) → getD (o .memory) i 0 ≢ getD m i 0
+abbrev pub OnlyInWindow : TheUnit → Arrived → Lent → Outcome → Type 0
+OnlyInWindow u p lent o =
+    (i : ℕ) → getD (o .memory) i 0 ≢ getD (lent .memory) i 0
     → (h : Header)
     × IsCommand u p h
     × (h .protocol ≡ 0x01)
@@ -39,16 +40,16 @@ OnlyInWindow u p m o =
 -- Any packet, any end, any link, any memory, any reply buffer: both keep their length, and memory changes only there.
 abbrev pub NeverStrays : Terminal → Type 0
 NeverStrays t =
-    (u : TheUnit) (p : List ℕ) (end : End) (link : ℕ) (m r : List ℕ)
-    → (length (t .packet u p end link m r .memory) ≡ length m)
-    × (length (t .packet u p end link m r .reply) ≡ length r)
-    × OnlyInWindow u p m (t .packet u p end link m r)
+    (u : TheUnit) (p : Arrived) (lent : Lent)
+    → (length (t .packet u p lent .memory) ≡ length (lent .memory))
+    × (length (t .packet u p lent .reply) ≡ length (lent .reply))
+    × OnlyInWindow u p lent (t .packet u p lent)
 
 -- ---- histories
 
 -- A call lends a memory of n bytes, and its packet is bytes; the small calls lend nothing.
 abbrev pub Lends : ℕ → Call → Type 0
-Lends n (packet p end link memory reply) = (length memory ≡ n) × Digits 256 p
+Lends n (packet p lent) = (length (lent .memory) ≡ n) × Digits 256 (p .packet)
 Lends n (timeCode byte) = Unit
 Lends n (ticks count) = Unit
 

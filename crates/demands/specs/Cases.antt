@@ -13,7 +13,9 @@ use Rattle.packets.specs.declared.reading.End.{End}
 use Rattle.unit.specs.Fate.{fateNumber}
 use Rattle.unit.specs.Usable.{usable, usableUnit}
 use Rattle.unit.specs.Act.{combineByte}
-use Rattle.unit.specs.Calls.{isLink, takePacket, takeTicks}
+use Rattle.unit.specs.Given.{Lent}
+use Rattle.unit.specs.Judge.{isLink}
+use Rattle.unit.specs.Calls.{takePacket, takeTicks}
 use Rattle.unit.specs.declared.unit.Unit.{Unit as TheUnit}
 
 -- An instruction is a command of a kind, incrementing and with a reply.
@@ -27,8 +29,8 @@ Instructs byte kind =
 -- A packet gets a number from every usable unit, with any end, on any of its links.
 abbrev pub Gets : List ℕ → ℕ → Type 0
 Gets p number =
-    (u : TheUnit) (end : End) (link : ℕ) (m r : List ℕ) → usable u (length m) ≡ true → isLink u link ≡ true
-    → fateNumber (takePacket u p end link m r .answer .fate) ≡ number
+    (u : TheUnit) (end : End) (link : ℕ) (lent : Lent) → usable u (length (lent .memory)) ≡ true → isLink u link ≡ true
+    → fateNumber (takePacket u (record { packet = p; end = end; link = link }) lent .answer .fate) ≡ number
 
 abbrev pub HandCases : Type 0
 HandCases =

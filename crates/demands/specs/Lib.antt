@@ -1,3 +1,4 @@
+pub mod Rows
 pub mod Terminal
 pub mod Demands
 pub mod Refusals

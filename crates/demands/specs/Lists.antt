@@ -5,15 +5,16 @@ use mathlib.Core.List.{List, [], _∷_}
 use Prim.Native.Nat.{ℕ, _+_}
 use lib.Dec.{leb, ltb}
 use lib.ListN.{getD}
-use Rattle.packets.specs.Instruction.{isWrite}
+use Rattle.packets.specs.Instruction.{isWrite, isRmw}
+use Rattle.packets.specs.Header.{kindIn}
 use Rattle.packets.specs.Reading.{readPacket}
 use Rattle.packets.specs.declared.header.Header.{Header}
-use Rattle.packets.specs.declared.reading.End.{End}
 use Rattle.packets.specs.declared.reading.Reading.{Reading}
 use Rattle.packets.specs.declared.reading.Reading.the-variants.{Refused, Time, Command}
 use Rattle.unit.specs.Some.{some}
 use Rattle.unit.specs.Fate.{fateStatus}
-use Rattle.unit.specs.Decide.{kindIn, isRmw, spanSize}
+use Rattle.unit.specs.Given.{Arrived, Lent}
+use Rattle.unit.specs.Decide.{spanSize}
 use Rattle.unit.specs.Calls.{Outcome}
 use Rattle.unit.specs.declared.fate.Fate.{Fate}
 use Rattle.unit.specs.declared.fate.Told.{Told}
@@ -37,24 +38,26 @@ pub data Merge {A : Type 0} : List Side → List A → List A → List A → Typ
 
 -- ---- a list of commands
 
--- A command on its way: a packet with its end, the link that it comes on, and the reply buffer that is lent for it, of its own length and contents.
+-- A command on its way: what arrives of it, and the reply buffer that is lent for it, of its own length and contents.
 pub record Sent : Type 0 where
-  pub packet : List ℕ
-  pub end : End
-  pub link : ℕ
+  pub arrived : Arrived
   pub buffer : List ℕ
 
 -- RMAP: the protocol is 01.
 abbrev pub Rmap : Sent → Type 0
-Rmap c = getD (c .packet) 1 0 ≡ 0x01
+Rmap c = getD (c .arrived .packet) 1 0 ≡ 0x01
 
 -- A unit, and the memory that is lent to it from command to command.
 pub record State : Type 0 where
   pub unit : TheUnit
   pub memory : List ℕ
 
+-- What is lent for a command: that memory, and its reply buffer.
+abbrev pub lentFor : Sent → List ℕ → Lent
+lentFor c m = record { memory = m; reply = c .buffer }
+
 abbrev pub outcomeOf : Terminal → State → Sent → Outcome
-outcomeOf t s c = t .packet (s .unit) (c .packet) (c .end) (c .link) (s .memory) (c .buffer)
+outcomeOf t s c = t .packet (s .unit) (c .arrived) (lentFor c (s .memory))
 
 -- What is heard of a command: its fate, with the status, the length of the reply, and the reply buffer.
 pub record Heard : Type 0 where
@@ -101,7 +104,7 @@ spanOf (Command h) i = inSpan h i
 -- part of what is shown.
 unfoldable pub refers : State → Sent → ℕ → Bool
 refers s c i =
-    not (refersToNone (fateStatus (outcomeOf ours s c .answer .fate))) && spanOf (readPacket (c .packet) (s .unit .number) .reading) i
+    not (refersToNone (fateStatus (outcomeOf ours s c .answer .fate))) && spanOf (readPacket (c .arrived .packet) (s .unit .number) .reading) i
 
 -- Whether it is a write or an RMW that refers to byte i.
 abbrev pub isStore : Reading → Bool
@@ -110,7 +113,7 @@ isStore Time = false
 isStore (Command h) = isWrite (h .instruction) || isRmw (kindIn h)
 
 unfoldable pub stores : State → Sent → ℕ → Bool
-stores s c i = isStore (readPacket (c .packet) (s .unit .number) .reading) && refers s c i
+stores s c i = isStore (readPacket (c .arrived .packet) (s .unit .number) .reading) && refers s c i
 
 -- No byte that a write or an RMW of one list refers to is referred to by any command of the other.
 abbrev pub Clear : State → List Sent → List Sent → Type 0

@@ -7,15 +7,16 @@ use Prim.Native.Nat.{ℕ, _+_, _<_, _≤_}
 use lib.Dec.{eqb}
 use lib.ListN.{length}
 use Rattle.packets.specs.Instruction.{wantsReply}
+use Rattle.packets.specs.Header.{kindIn}
 use Rattle.packets.specs.declared.header.Header.{Header}
-use Rattle.packets.specs.declared.reading.End.{End}
 use Rattle.unit.specs.Some.{some}
 use Rattle.unit.specs.Fate.{isSuccess, fateStatus}
 use Rattle.unit.specs.Windows.{holds, hasRight, used}
 use Rattle.unit.specs.Fields.{rowOf}
 use Rattle.unit.specs.Usable.{usable}
-use Rattle.unit.specs.Decide.{kindIn, openingStatus, spanSize, fieldCount, namesFields}
-use Rattle.unit.specs.Calls.{isLink}
+use Rattle.unit.specs.Given.{Arrived, Lent}
+use Rattle.unit.specs.Decide.{openingStatus, spanSize, fieldCount, namesFields}
+use Rattle.unit.specs.Judge.{isLink}
 use Rattle.unit.specs.declared.fate.Told.the-variants.{Byte}
 use Rattle.unit.specs.declared.unit.Unit.{Unit as TheUnit}
 use Rattle.demands.specs.Terminal.{Terminal, IsCommand}
@@ -41,16 +42,16 @@ NamesMissing h = (k : ℕ) × (k < fieldCount (kindIn h) (h .length)) × (some (
 -- A plug-and-play command that names such a field never has status 0.
 abbrev pub MissingRefused : Terminal → Type 0
 MissingRefused t =
-    (u : TheUnit) (p : List ℕ) (end : End) (link : ℕ) (m r : List ℕ) (h : Header) → IsCommand u p h → h .protocol ≡ 0x03 → NamesMissing h
-    → fateStatus (t .packet u p end link m r .answer .fate) ≢ Byte 0
+    (u : TheUnit) (p : Arrived) (lent : Lent) (h : Header) → IsCommand u p h → h .protocol ≡ 0x03 → NamesMissing h
+    → fateStatus (t .packet u p lent .answer .fate) ≢ Byte 0
 
 -- Where it got past the checks before that one (1, 2; 2, 3, 12 and 10), and its reply, if asked for, has room, it has F1.
 abbrev pub MissingIsF1 : Terminal → Type 0
 MissingIsF1 t =
-    (u : TheUnit) (p : List ℕ) (end : End) (link : ℕ) (m r : List ℕ) (h : Header) → IsCommand u p h → h .protocol ≡ 0x03 → NamesMissing h
-    → usable u (length m) ≡ true → isLink u link ≡ true → isSuccess (openingStatus h 0x00 0xFE) ≡ true → namesFields h ≡ true
-    → (wantsReply (h .instruction) ≡ true → lengthDue u p h end link ≤ length r)
-    → fateStatus (t .packet u p end link m r .answer .fate) ≡ Byte 0xF1
+    (u : TheUnit) (p : Arrived) (lent : Lent) (h : Header) → IsCommand u p h → h .protocol ≡ 0x03 → NamesMissing h
+    → usable u (length (lent .memory)) ≡ true → isLink u (p .link) ≡ true → isSuccess (openingStatus h 0x00 0xFE) ≡ true → namesFields h ≡ true
+    → (wantsReply (h .instruction) ≡ true → lengthDue u p h ≤ length (lent .reply))
+    → fateStatus (t .packet u p lent .answer .fate) ≡ Byte 0xF1
 
 -- ---- memory
 
@@ -62,5 +63,5 @@ WindowWithRight u h =
 -- No RMAP command has status 0 unless that is so.
 abbrev pub ObeyedInWindow : Terminal → Type 0
 ObeyedInWindow t =
-    (u : TheUnit) (p : List ℕ) (end : End) (link : ℕ) (m r : List ℕ) (h : Header) → IsCommand u p h → h .protocol ≡ 0x01
-    → fateStatus (t .packet u p end link m r .answer .fate) ≡ Byte 0 → WindowWithRight u h
+    (u : TheUnit) (p : Arrived) (lent : Lent) (h : Header) → IsCommand u p h → h .protocol ≡ 0x01
+    → fateStatus (t .packet u p lent .answer .fate) ≡ Byte 0 → WindowWithRight u h

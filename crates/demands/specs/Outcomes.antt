@@ -4,6 +4,7 @@ use mathlib.Core.Path.{_≡_}
 use mathlib.Core.List.{List}
 use Prim.Native.Nat.{ℕ}
 use denote.Ref.{now}
+use Rattle.demands.specs.Rows.{first, fourth, fifth, sixth}
 use Rattle.octets.proofs.crc_of.Reads.{Asked as asked·crc_of, Learnt as promise·crc_of}
 use Rattle.octets.proofs.crc_from.Reads.{Asked as asked·crc_from, Learnt as promise·crc_from}
 use Rattle.octets.proofs.read_number.Reads.{Asked as asked·read_number, Learnt as promise·read_number}
@@ -19,6 +20,9 @@ use Rattle.octets.proofs.bytes7.Reads.{Asked as asked·bytes7, Learnt as promis
 use Rattle.octets.proofs.copy_part.Reads.{Asked as asked·copy_part, Learnt as promise·copy_part}
 use Rattle.octets.proofs.fill.Reads.{Asked as asked·fill, Learnt as promise·fill}
 use Rattle.octets.proofs.move_to_start.Reads.{Asked as asked·move_to_start, Learnt as promise·move_to_start}
+use Rattle.packets.proofs.instruction.Kind.is_unused.Reads.{Asked as asked·Kind·is_unused, Learnt as promise·Kind·is_unused}
+use Rattle.packets.proofs.instruction.Kind.is_read.Reads.{Asked as asked·Kind·is_read, Learnt as promise·Kind·is_read}
+use Rattle.packets.proofs.instruction.Kind.is_rmw.Reads.{Asked as asked·Kind·is_rmw, Learnt as promise·Kind·is_rmw}
 use Rattle.packets.proofs.instruction.Instruction.packet_type.Reads.{Asked as asked·Instruction·packet_type, Learnt as promise·Instruction·packet_type}
 use Rattle.packets.proofs.instruction.Instruction.is_write.Reads.{Asked as asked·Instruction·is_write, Learnt as promise·Instruction·is_write}
 use Rattle.packets.proofs.instruction.Instruction.is_verified.Reads.{Asked as asked·Instruction·is_verified, Learnt as promise·Instruction·is_verified}
@@ -44,6 +48,7 @@ use Rattle.packets.proofs.read_time.Reads.{Asked as asked·read_time, Learnt as
 use Rattle.unit.proofs.fate.Status.byte.Reads.{Asked as asked·Status·byte, Learnt as promise·Status·byte}
 use Rattle.unit.proofs.fate.Fate.number.Reads.{Asked as asked·Fate·number, Learnt as promise·Fate·number}
 use Rattle.unit.proofs.fate.Fate.status.Reads.{Asked as asked·Fate·status, Learnt as promise·Fate·status}
+use Rattle.unit.proofs.judge.Reads.{Asked as asked·judge, Learnt as promise·judge}
 use Rattle.unit.proofs.take_packet.Reads.{Asked as asked·take_packet, Learnt as promise·take_packet}
 use Rattle.unit.proofs.take_time_code.Reads.{Asked as asked·take_time_code, Learnt as promise·take_time_code}
 use Rattle.unit.proofs.take_ticks.Reads.{Asked as asked·take_ticks, Learnt as promise·take_ticks}
@@ -77,7 +82,7 @@ OctetsDetermined =
     × (OneResult promise·crc_from)
     × (OneResult promise·read_number)
     × (OneResult promise·write_number)
-    × (OneExit promise·write_number (λ κs e. now (e .0)))
+    × (OneExit promise·write_number (λ κs e. now (first e)))  -- the buffer
     × (OneResult promise·number2)
     × (OneResult promise·number3)
     × (OneResult promise·number4)
@@ -87,15 +92,18 @@ OctetsDetermined =
     × (OneResult promise·bytes4)
     × (OneResult promise·bytes7)
     × (OneResult promise·copy_part)
-    × (OneExit promise·copy_part (λ κs e. now (e .1 .1 .1 .0)))
+    × (OneExit promise·copy_part (λ κs e. now (fourth e)))  -- the destination
     × (OneResult promise·fill)
-    × (OneExit promise·fill (λ κs e. now (e .0)))
+    × (OneExit promise·fill (λ κs e. now (first e)))  -- the buffer
     × (OneResult promise·move_to_start)
-    × (OneExit promise·move_to_start (λ κs e. now (e .0)))
+    × (OneExit promise·move_to_start (λ κs e. now (first e)))  -- the buffer
 
 abbrev pub PacketsDetermined : Type 0
 PacketsDetermined =
-    (OneResult promise·Instruction·packet_type)
+    (OneResult promise·Kind·is_unused)
+    × (OneResult promise·Kind·is_read)
+    × (OneResult promise·Kind·is_rmw)
+    × (OneResult promise·Instruction·packet_type)
     × (OneResult promise·Instruction·is_write)
     × (OneResult promise·Instruction·is_verified)
     × (OneResult promise·Instruction·wants_reply)
@@ -114,9 +122,9 @@ PacketsDetermined =
     × (OneResult promise·read_packet)
     × (OneResult promise·reply_length)
     × (OneResult promise·write_reply)
-    × (OneExit promise·write_reply (λ κs e. now (e .1 .1 .1 .1 .0)))
+    × (OneExit promise·write_reply (λ κs e. now (fifth e)))  -- the reply buffer
     × (OneResult promise·write_repeated_reply)
-    × (OneExit promise·write_repeated_reply (λ κs e. now (e .1 .1 .1 .1 .1 .0)))
+    × (OneExit promise·write_repeated_reply (λ κs e. now (sixth e)))  -- the reply buffer
     × (OneResult promise·TimeReading·number)
     × (OneResult promise·read_time)
 
@@ -125,9 +133,10 @@ UnitDetermined =
     (OneResult promise·Status·byte)
     × (OneResult promise·Fate·number)
     × (OneResult promise·Fate·status)
+    × (OneResult promise·judge)
     × (OneResult promise·take_packet)
-    × (OneExit promise·take_packet (λ κs e. now (e .1 .1 .1 .1 .0)))
-    × (OneExit promise·take_packet (λ κs e. now (e .1 .1 .1 .1 .1 .0)))
+    × (OneExit promise·take_packet (λ κs e. now (fifth e)))  -- memory
+    × (OneExit promise·take_packet (λ κs e. now (sixth e)))  -- the reply buffer
     × (OneResult promise·take_time_code)
     × (OneResult promise·take_ticks)
 
@@ -138,9 +147,9 @@ RecordsDetermined =
     × (OneResult promise·Stage·is_over)
     × (OneResult promise·start)
     × (OneResult promise·run)
-    × (OneExit promise·run (λ κs e. now (e .1 .1 .1 .0)))
-    × (OneExit promise·run (λ κs e. now (e .1 .1 .1 .1 .0)))
-    × (OneExit promise·run (λ κs e. now (e .1 .1 .1 .1 .1 .0)))
+    × (OneExit promise·run (λ κs e. now (fourth e)))  -- memory
+    × (OneExit promise·run (λ κs e. now (fifth e)))  -- the reply buffer
+    × (OneExit promise·run (λ κs e. now (sixth e)))  -- the text buffer
 
 abbrev pub TerminalDetermined : Type 0
 TerminalDetermined = (OneResult promise·terminal_crc)
@@ -165,7 +174,10 @@ OctetsAskNothing =
 
 abbrev pub PacketsAskNothing : Type 0
 PacketsAskNothing =
-    AsksNothing asked·Instruction·packet_type
+    AsksNothing asked·Kind·is_unused
+    × AsksNothing asked·Kind·is_read
+    × AsksNothing asked·Kind·is_rmw
+    × AsksNothing asked·Instruction·packet_type
     × AsksNothing asked·Instruction·is_write
     × AsksNothing asked·Instruction·is_verified
     × AsksNothing asked·Instruction·wants_reply
@@ -193,6 +205,7 @@ UnitAsksNothing =
     AsksNothing asked·Status·byte
     × AsksNothing asked·Fate·number
     × AsksNothing asked·Fate·status
+    × AsksNothing asked·judge
     × AsksNothing asked·take_packet
     × AsksNothing asked·take_time_code
     × AsksNothing asked·take_ticks

@@ -5,17 +5,17 @@ use mathlib.Core.Logic.{_⊎_, _↔_}
 use mathlib.Core.List.{List, [], _∷_}
 use Prim.Native.Nat.{ℕ, _+_, _-_, _%_, _^_, _<_, _≤_, min}
 use lib.Dec.{eqb}
-use lib.ListN.{length, drop}
+use lib.ListN.{length}
 use Rattle.octets.specs.Places.{part, placed}
 use Rattle.octets.specs.Numbers.{Digits}
 use Rattle.packets.specs.Instruction.{isWrite, isVerified, wantsReply, isIncrementing, headerSize}
+use Rattle.packets.specs.Header.{kindIn}
 use Rattle.packets.specs.Reading.{numberOf}
 use Rattle.packets.specs.Reply.{replyLength}
 use Rattle.packets.specs.Time.{readTime}
 use Rattle.packets.specs.declared.instruction.Kind.{Kind}
 use Rattle.packets.specs.declared.instruction.Kind.the-variants.{Unused, Read, ReadModifyWrite, Write}
 use Rattle.packets.specs.declared.header.Header.{Header}
-use Rattle.packets.specs.declared.reading.End.{End}
 use Rattle.packets.specs.declared.reading.Reading.the-variants.{Refused, Time}
 use Rattle.packets.specs.declared.time.Time.{Time as TheTime}
 use Rattle.packets.specs.declared.time.TimeReading.{TimeReading}
@@ -25,10 +25,12 @@ use Rattle.unit.specs.Fate.{byteOf, isSuccess, orElse, fateNumber, fateStatus}
 use Rattle.unit.specs.Counters.{bumpedAt, total}
 use Rattle.unit.specs.Clock.{afterTime}
 use Rattle.unit.specs.Usable.{usable, usableUnit}
-use Rattle.unit.specs.Decide.{kindIn, rmwCount, headerStatus, wantedCount, dataStatus}
+use Rattle.unit.specs.Given.{Arrived, Lent}
+use Rattle.unit.specs.Decide.{rmwCount, headerStatus, dataStatusOf}
 use Rattle.unit.specs.Plan.{replyCount}
 use Rattle.unit.specs.Act.{combined, lastOf, withCounters, withClock}
-use Rattle.unit.specs.Calls.{Outcome, isLink}
+use Rattle.unit.specs.Judge.{isLink}
+use Rattle.unit.specs.Calls.{Outcome}
 use Rattle.unit.specs.declared.fate.Status.{Status}
 use Rattle.unit.specs.declared.fate.Fate.{Fate}
 use Rattle.unit.specs.declared.fate.Fate.the-variants.{TimeChanged, Unusable, NoSuchLink, NoRoom, Unread, TimeThrownAway, NotObeyed, Obeyed, TimeTaken, Replied}
@@ -73,130 +75,134 @@ withOwnable u v = record {
 
 -- ---- what a row says of memory
 
--- The first min(k, L) of the k bytes behind the header of the packet p.
-abbrev pub firstData : Header → List ℕ → List ℕ
-firstData h p = part (headerSize (h .instruction)) (min (length p - headerSize (h .instruction)) (h .length)) p
+-- The first min(k, L) of the k bytes behind the header.
+abbrev pub firstData : Header → Arrived → List ℕ
+firstData h p = part (headerSize (h .instruction)) (min (length (p .packet) - headerSize (h .instruction)) (h .length)) (p .packet)
 
 -- A write puts them into memory from A on; single, it leaves the last of them at A.
-abbrev pub writtenTo : Header → List ℕ → List ℕ → List ℕ
-writtenTo h p m = placed (h .address) (cond (isIncrementing (h .instruction)) (firstData h p) (lastOf (firstData h p))) m
+abbrev pub writtenTo : Header → Arrived → Lent → List ℕ
+writtenTo h p lent = placed (h .address) (cond (isIncrementing (h .instruction)) (firstData h p) (lastOf (firstData h p))) (lent .memory)
 
 -- An RMW combines the n = L/2 bytes that it reads from A on with n data and then n masks.
-abbrev pub combinedIn : Header → List ℕ → List ℕ → List ℕ
-combinedIn h p m =
+abbrev pub combinedIn : Header → Arrived → Lent → List ℕ
+combinedIn h p lent =
     placed (h .address)
-    (combined (part (h .address) (rmwCount h) m) (part (headerSize (h .instruction)) (rmwCount h) p)
-    (part (headerSize (h .instruction) + rmwCount h) (rmwCount h) p)) m
+    (combined (part (h .address) (rmwCount h) (lent .memory)) (part (headerSize (h .instruction)) (rmwCount h) (p .packet))
+    (part (headerSize (h .instruction) + rmwCount h) (rmwCount h) (p .packet))) (lent .memory)
 
 -- What an obeyed RMAP command leaves in memory, by its kind.
-abbrev pub obeyedOn : Kind → Header → List ℕ → List ℕ → List ℕ
-obeyedOn Unused h p m = m
-obeyedOn Read h p m = m
-obeyedOn ReadModifyWrite h p m = combinedIn h p m
-obeyedOn Write h p m = writtenTo h p m
+abbrev pub obeyedOn : Kind → Header → Arrived → Lent → List ℕ
+obeyedOn Unused h p lent = lent .memory
+obeyedOn Read h p lent = lent .memory
+obeyedOn ReadModifyWrite h p lent = combinedIn h p lent
+obeyedOn Write h p lent = writtenTo h p lent
 
 -- What a refused command leaves: an RMAP write without verify has stored, where it ended in 4, 5, 6 or 7; nothing else has.
 abbrev pub hasStored : Header → Status → Bool
 hasStored h s =
     eqb (h .protocol) 0x01 && isWrite (h .instruction) && not (isVerified (h .instruction)) && some (eqb (byteOf s)) (4 ∷ 5 ∷ 6 ∷ 7 ∷ [])
 
-abbrev pub refusedOn : Header → Status → List ℕ → List ℕ → List ℕ
-refusedOn h s p m = cond (hasStored h s) (writtenTo h p m) m
+abbrev pub refusedOn : Header → Status → Arrived → Lent → List ℕ
+refusedOn h s p lent = cond (hasStored h s) (writtenTo h p lent) (lent .memory)
 
 -- ---- what a row says of the reply buffer
 
 -- No reply: all bytes keep what they held.
-abbrev pub NoReply : List ℕ → Outcome → Type 0
-NoReply r o = (o .reply ≡ r) × (o .answer .length ≡ 0)
+abbrev pub NoReply : Lent → Outcome → Type 0
+NoReply lent o = (o .reply ≡ lent .reply) × (o .answer .length ≡ 0)
 
 -- A reply was written: it had room, its bytes stand first, and unused bytes keep what they held. (Which bytes: `Replies`, in Meaning.)
-abbrev pub Written : List ℕ → Outcome → Type 0
-Written r o = (bytes : List ℕ) × (o .reply ≡ placed 0 bytes r) × (o .answer .length ≡ length bytes) × (length bytes ≤ length r)
+abbrev pub Written : Lent → Outcome → Type 0
+Written lent o =
+    (bytes : List ℕ) × (o .reply ≡ placed 0 bytes (lent .reply)) × (o .answer .length ≡ length bytes) × (length bytes ≤ length (lent .reply))
 
 -- ---- when a row is given
 
 -- The status that a command is due: the header's, and the data's where the header allows it; and the length of its reply.
-abbrev pub statusDue : TheUnit → List ℕ → Header → End → ℕ → Status
-statusDue u p h end link =
-    orElse (headerStatus u h (pathIn u p) link) (dataStatus (drop (headerSize (h .instruction)) p) (wantedCount h) end)
+abbrev pub statusDue : TheUnit → Arrived → Header → Status
+statusDue u p h = orElse (headerStatus u h (pathIn u p) (p .link)) (dataStatusOf h p)
 
-abbrev pub lengthDue : TheUnit → List ℕ → Header → End → ℕ → ℕ
-lengthDue u p h end link = replyLength (pathIn u p) h (byteOf (statusDue u p h end link)) (replyCount h)
+abbrev pub lengthDue : TheUnit → Arrived → Header → ℕ
+lengthDue u p h = replyLength (pathIn u p) h (byteOf (statusDue u p h)) (replyCount h)
 
 -- The packet is read as a time packet, thrown away or taken.
-abbrev pub TimeReadAs : TheUnit → List ℕ → End → TimeReading → Type 0
-TimeReadAs u p end time = ReadAs u p Time × (readTime p end (u .logical) (u .number) ≡ time)
+abbrev pub TimeReadAs : TheUnit → Arrived → TimeReading → Type 0
+TimeReadAs u p time = ReadAs u p Time × (readTime (p .packet) (p .end) (u .logical) (u .number) ≡ time)
 
 -- ---- the rows
 
 -- 1, 2, 3: everything unchanged, nothing counted. When they are given: `OneTwoThree`.
-abbrev pub Unchanged : TheUnit → List ℕ → List ℕ → Outcome → Type 0
-Unchanged u m r o = (o .answer .unit ≡ u) × (o .memory ≡ m) × NoReply r o
+abbrev pub Unchanged : TheUnit → Lent → Outcome → Type 0
+Unchanged u lent o = (o .answer .unit ≡ u) × (o .memory ≡ lent .memory) × NoReply lent o
 
 -- 11 to 16: counted, no reply.
-abbrev pub OnlyCounted : ℕ → TheUnit → List ℕ → List ℕ → Outcome → Type 0
-OnlyCounted number u m r o = (o .answer .unit ≡ countedAs number u) × (o .memory ≡ m) × NoReply r o
+abbrev pub OnlyCounted : ℕ → TheUnit → Lent → Outcome → Type 0
+OnlyCounted number u lent o = (o .answer .unit ≡ countedAs number u) × (o .memory ≡ lent .memory) × NoReply lent o
 
 -- 19: counted, no reply, and the time changed by what the packet says.
-abbrev pub TimeSet : TheUnit → List ℕ → End → List ℕ → List ℕ → Outcome → Type 0
-TimeSet u p end m r o =
-    (t : TheTime) × TimeReadAs u p end (Taken t) × (o .answer .unit ≡ countedAs 19 (withClock u (afterTime (u .clock) t))) × (o .memory ≡ m) × NoReply r o
+abbrev pub TimeSet : TheUnit → Arrived → Lent → Outcome → Type 0
+TimeSet u p lent o =
+    (t : TheTime)
+    × TimeReadAs u p (Taken t)
+    × (o .answer .unit ≡ countedAs 19 (withClock u (afterTime (u .clock) t)))
+    × (o .memory ≡ lent .memory)
+    × NoReply lent o
 
 -- A command that asked for a reply or did not, refused with the status that it is due, which is not 0: counted.
-abbrev pub Refuses : Status → ℕ → Bool → TheUnit → List ℕ → End → ℕ → List ℕ → Outcome → Type 0
-Refuses s number asked u p end link m o =
+abbrev pub Refuses : Status → ℕ → Bool → TheUnit → Arrived → Lent → Outcome → Type 0
+Refuses s number asked u p lent o =
     (h : Header)
     × IsCommand u p h
     × (wantsReply (h .instruction) ≡ asked)
-    × (s ≡ statusDue u p h end link)
+    × (s ≡ statusDue u p h)
     × (isSuccess s ≡ false)
     × (o .answer .unit ≡ countedAs number u)
-    × (o .memory ≡ refusedOn h s p m)
+    × (o .memory ≡ refusedOn h s p lent)
 
 -- A command that asked for a reply or did not, obeyed, since status 0 is due: counted, effect done. RMAP changes nothing else of the unit. Plug-and-play
 -- changes no memory, and nothing of the unit that can't be owned; what it changes there the definitions say (`ByteByByte`, in Meaning).
-abbrev pub Obeys : ℕ → Bool → TheUnit → List ℕ → End → ℕ → List ℕ → Outcome → Type 0
-Obeys number asked u p end link m o =
+abbrev pub Obeys : ℕ → Bool → TheUnit → Arrived → Lent → Outcome → Type 0
+Obeys number asked u p lent o =
     (h : Header)
     × IsCommand u p h
     × (wantsReply (h .instruction) ≡ asked)
-    × (isSuccess (statusDue u p h end link) ≡ true)
-    × (((h .protocol ≡ 0x01) × (o .answer .unit ≡ countedAs number u) × (o .memory ≡ obeyedOn (kindIn h) h p m))
-    ⊎ ((h .protocol ≡ 0x03) × (o .answer .unit ≡ countedAs number (withOwnable u (o .answer .unit))) × (o .memory ≡ m)))
+    × (isSuccess (statusDue u p h) ≡ true)
+    × (((h .protocol ≡ 0x01) × (o .answer .unit ≡ countedAs number u) × (o .memory ≡ obeyedOn (kindIn h) h p lent))
+    ⊎ ((h .protocol ≡ 0x03) × (o .answer .unit ≡ countedAs number (withOwnable u (o .answer .unit))) × (o .memory ≡ lent .memory)))
 
--- The table: when a packet p with its end and link gets a fate, and what it then leaves of unit, memory and reply buffer.
-abbrev pub Leaves : Fate → TheUnit → List ℕ → End → ℕ → List ℕ → List ℕ → Outcome → Type 0
-Leaves TimeChanged u p end link m r o = ⊥  -- 0 is no packet's
-Leaves Unusable u p end link m r o = Unchanged u m r o  -- 1
-Leaves NoSuchLink u p end link m r o = Unchanged u m r o  -- 2
-Leaves NoRoom u p end link m r o = Unchanged u m r o  -- 3
-Leaves (Unread why) u p end link m r o = ReadAs u p (Refused why) × OnlyCounted (numberOf why) u m r o  -- 11 to 15
-Leaves TimeThrownAway u p end link m r o = TimeReadAs u p end ThrownAway × OnlyCounted 16 u m r o
-Leaves (NotObeyed s) u p end link m r o = Refuses s 17 false u p end link m o × NoReply r o
-Leaves Obeyed u p end link m r o = Obeys 18 false u p end link m o × NoReply r o
-Leaves TimeTaken u p end link m r o = TimeSet u p end m r o  -- 19
-Leaves (Replied s) u p end link m r o =
-    (isSuccess s ≡ true → Obeys 20 true u p end link m o) × (isSuccess s ≡ false → Refuses s 20 true u p end link m o) × Written r o
+-- The table: when a packet that arrived gets a fate, and what it then leaves of unit, memory and reply buffer.
+abbrev pub Leaves : Fate → TheUnit → Arrived → Lent → Outcome → Type 0
+Leaves TimeChanged u p lent o = ⊥  -- 0 is no packet's
+Leaves Unusable u p lent o = Unchanged u lent o  -- 1
+Leaves NoSuchLink u p lent o = Unchanged u lent o  -- 2
+Leaves NoRoom u p lent o = Unchanged u lent o  -- 3
+Leaves (Unread why) u p lent o = ReadAs u p (Refused why) × OnlyCounted (numberOf why) u lent o  -- 11 to 15
+Leaves TimeThrownAway u p lent o = TimeReadAs u p ThrownAway × OnlyCounted 16 u lent o
+Leaves (NotObeyed s) u p lent o = Refuses s 17 false u p lent o × NoReply lent o
+Leaves Obeyed u p lent o = Obeys 18 false u p lent o × NoReply lent o
+Leaves TimeTaken u p lent o = TimeSet u p lent o  -- 19
+Leaves (Replied s) u p lent o =
+    (isSuccess s ≡ true → Obeys 20 true u p lent o) × (isSuccess s ≡ false → Refuses s 20 true u p lent o) × Written lent o
 
 -- ---- the demand
 
 -- Every packet of bytes, whatever its end, link, memory and reply buffer, is due its fate by that fate's row, and leaves what the row says.
 abbrev pub RowByRow : Terminal → Type 0
 RowByRow t =
-    (u : TheUnit) (p : List ℕ) (end : End) (link : ℕ) (m r : List ℕ) → Digits 256 p
-    → Leaves (t .packet u p end link m r .answer .fate) u p end link m r (t .packet u p end link m r)
+    (u : TheUnit) (p : Arrived) (lent : Lent) → Digits 256 (p .packet)
+    → Leaves (t .packet u p lent .answer .fate) u p lent (t .packet u p lent)
 
 -- 1 goes before 2, 2 before all else. 1 exactly if the unit is unusable with that memory; 2 exactly if it is usable, and the link is 0 or above
 -- the link count; 3 exactly if neither is so, and the packet is a command whose reply, asked for, is longer than the reply buffer.
 abbrev pub OneTwoThree : Terminal → Type 0
 OneTwoThree t =
-    (u : TheUnit) (p : List ℕ) (end : End) (link : ℕ) (m r : List ℕ)
-    → ((fateNumber (t .packet u p end link m r .answer .fate) ≡ 1) ↔ (usable u (length m) ≡ false))
-    × ((fateNumber (t .packet u p end link m r .answer .fate) ≡ 2) ↔ ((usable u (length m) ≡ true) × (isLink u link ≡ false)))
-    × ((fateNumber (t .packet u p end link m r .answer .fate) ≡ 3)
-    ↔ ((usable u (length m) ≡ true)
-    × (isLink u link ≡ true)
-    × ((h : Header) × IsCommand u p h × (wantsReply (h .instruction) ≡ true) × (length r < lengthDue u p h end link))))
+    (u : TheUnit) (p : Arrived) (lent : Lent)
+    → ((fateNumber (t .packet u p lent .answer .fate) ≡ 1) ↔ (usable u (length (lent .memory)) ≡ false))
+    × ((fateNumber (t .packet u p lent .answer .fate) ≡ 2) ↔ ((usable u (length (lent .memory)) ≡ true) × (isLink u (p .link) ≡ false)))
+    × ((fateNumber (t .packet u p lent .answer .fate) ≡ 3)
+    ↔ ((usable u (length (lent .memory)) ≡ true)
+    × (isLink u (p .link) ≡ true)
+    × ((h : Header) × IsCommand u p h × (wantsReply (h .instruction) ≡ true) × (length (lent .reply) < lengthDue u p h))))
 
 -- The small calls answer 1 and leave the unit, where it is unusable for another cause than memory; else 0, and only the time changes. Neither
 -- counts, and neither has a reply. A Time-Code becomes the last one, whoever owns the unit: it is no packet. Ticks leave the last one, and
@@ -234,15 +240,14 @@ Carries number (Byte status) = (some (eqb number) (17 ∷ 18 ∷ 20 ∷ []) ≡ 
 -- fate a packet has is said by the rows.
 abbrev pub Listed : Terminal → Type 0
 Listed t =
-    (u : TheUnit) (p : List ℕ) (end : End) (link : ℕ) (m r : List ℕ)
-    → (some (eqb (fateNumber (t .packet u p end link m r .answer .fate))) numbers ≡ true)
-    × Carries (fateNumber (t .packet u p end link m r .answer .fate)) (fateStatus (t .packet u p end link m r .answer .fate))
+    (u : TheUnit) (p : Arrived) (lent : Lent)
+    → (some (eqb (fateNumber (t .packet u p lent .answer .fate))) numbers ≡ true)
+    × Carries (fateNumber (t .packet u p lent .answer .fate)) (fateStatus (t .packet u p lent .answer .fate))
 
 -- No row is empty: each of the numbers is some packet's.
 abbrev pub Gives : Terminal → ℕ → Type 0
 Gives t number =
-    (u : TheUnit) × (p : List ℕ) × (end : End) × (link : ℕ) × (m : List ℕ) × (r : List ℕ)
-    × (fateNumber (t .packet u p end link m r .answer .fate) ≡ number)
+    (u : TheUnit) × (p : Arrived) × (lent : Lent) × (fateNumber (t .packet u p lent .answer .fate) ≡ number)
 
 abbrev pub NoRowEmpty : Terminal → Type 0
 NoRowEmpty t = Every (Gives t) numbers

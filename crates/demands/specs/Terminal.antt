@@ -5,18 +5,17 @@ use Prim.Native.Nat.{ℕ}
 use Rattle.packets.specs.Reading.{readPacket}
 use Rattle.packets.specs.declared.header.Header.{Header}
 use Rattle.packets.specs.declared.path.Path.{Path}
-use Rattle.packets.specs.declared.reading.End.{End}
 use Rattle.packets.specs.declared.reading.Reading.{Reading}
 use Rattle.packets.specs.declared.reading.Reading.the-variants.{Command}
+use Rattle.unit.specs.Given.{Arrived, Lent}
 use Rattle.unit.specs.Calls.{Outcome, takePacket, takeTimeCode, takeTicks}
 use Rattle.unit.specs.declared.fate.Fate.{Fate}
 use Rattle.unit.specs.declared.calls.Answer.{Answer}
 use Rattle.unit.specs.declared.unit.Unit.{Unit as TheUnit}
 
--- A terminal, as far as its promises go: what each of its three calls answers and leaves. A packet comes with its end and its link, with
--- memory and with a reply buffer.
+-- A terminal, as far as its promises go: what each of its three calls answers and leaves, for what arrived and with what is lent.
 pub record Terminal : Type 0 where
-  pub packet : TheUnit → List ℕ → End → ℕ → List ℕ → List ℕ → Outcome
+  pub packet : TheUnit → Arrived → Lent → Outcome
   pub timeCode : TheUnit → ℕ → Answer
   pub ticks : TheUnit → ℕ → Answer
 
@@ -28,25 +27,25 @@ ours = record { packet = takePacket; timeCode = takeTimeCode; ticks = takeTicks 
 -- ---- a packet to a unit
 
 -- What it is read as; so as the command h, RMAP or plug-and-play; and its reply path.
-abbrev pub ReadAs : TheUnit → List ℕ → Reading → Type 0
-ReadAs u p reading = readPacket p (u .number) .reading ≡ reading
+abbrev pub ReadAs : TheUnit → Arrived → Reading → Type 0
+ReadAs u p reading = readPacket (p .packet) (u .number) .reading ≡ reading
 
-abbrev pub IsCommand : TheUnit → List ℕ → Header → Type 0
+abbrev pub IsCommand : TheUnit → Arrived → Header → Type 0
 IsCommand u p h = ReadAs u p (Command h)
 
-abbrev pub pathIn : TheUnit → List ℕ → Path
-pathIn u p = readPacket p (u .number) .path
+abbrev pub pathIn : TheUnit → Arrived → Path
+pathIn u p = readPacket (p .packet) (u .number) .path
 
 -- ---- histories
 
 -- A call with all that is lent to it. Memory is lent on each call, so each packet has its own.
 pub data Call : Type 0 where
-  packet : List ℕ → End → ℕ → List ℕ → List ℕ → Call
+  packet : Arrived → Lent → Call
   timeCode : ℕ → Call
   ticks : ℕ → Call
 
 abbrev pub answerTo : Terminal → TheUnit → Call → Answer
-answerTo t u (packet p end link memory reply) = t .packet u p end link memory reply .answer
+answerTo t u (packet p lent) = t .packet u p lent .answer
 answerTo t u (timeCode byte) = t .timeCode u byte
 answerTo t u (ticks count) = t .ticks u count
 

@@ -1,17 +1,17 @@
 -- Laws of parts and places: how long they are, and which byte stands where.
-use mathlib.Core.Path.{_≡_, refl, sym, ap, _∙_}
+use mathlib.Core.Path.{_≡_, refl, sym, ap, ap₂, _∙_}
 use mathlib.Core.Bool.{Bool, true, false, cond, _&&_, _||_, false≢true}
 use mathlib.Core.Logic.{_⊎_, inl, inr, ⊎-elim}
 use mathlib.Core.List.{List, [], _∷_, _++_, append-assoc, append-nil}
-use Prim.Native.Nat.{ℕ, suc, _+_, _-_, _<_, _≤_}
+use Prim.Native.Nat.{ℕ, suc, _+_, _-_, _<_, _≤_, min}
 use native.Mathlib.Omega.{arith}
 use native.Mathlib.Decide.{decLe}
 use native.Mathlib.Nat.{lt-of-not-le, add-assoc, add-zero, zero-add}
 use native.Mathlib.Numerals.{add-one}
 use borrow.Author.Tests.{leb-true, le-leb, lt-leb}
 use lib.Dec.{leb}
-use lib.ListN.{length, getD, set, take, drop, replicate, length-replicate, length-append, length-take, length-drop, take-append-drop, List·getD-append}
-use lib.Seq.{ext-getD, paste, paste-suc, drop-set-lt, take-add, drop-append-add, length-take-le, take-length, take-at, drop-at, drop-drop, getD-take, getD-drop, getD-append-add}
+use lib.ListN.{length, getD, set, take, drop, replicate, length-replicate, length-append, length-take, length-drop, take-append-drop, drop-of-length-le, List·getD-append}
+use lib.Seq.{ext-getD, paste, paste-suc, drop-set-lt, take-all, take-add, take-append-le, take-append-add, drop-append-le, drop-append-add, drop-length, length-take-le, take-length, take-at, drop-at, drop-drop, getD-take, getD-drop, getD-append-add}
 use Rattle.octets.proofs.Tabulate.{tabulate, length-tabulate}
 use Rattle.octets.proofs.Tabulate.{at as at-place}
 use Rattle.octets.specs.Places.{within, part, placed, copyFits, copied, filled}
@@ -63,6 +63,53 @@ part-behind x y at j count e = rw (← e, drop-append-add x y j)
 
 pub part-at-behind : (x y : List ℕ) (at j : ℕ) → length x ≡ at → getD (x ++ y) (at + j) 0 ≡ getD y j 0
 part-at-behind x y at j e = rw (← e) (getD-append-add x y j 0)
+
+-- ---- the first and the rest of two rows, and a number of bytes that may be too large
+
+module _ (n : ℕ) (x y : List ℕ) where
+  pub take-append : take n (x ++ y) ≡ take n x ++ take (n - length x) y
+  take-append = go (decLe n (length x))
+    where
+      go : Dec (n ≤ length x) → take n (x ++ y) ≡ take n x ++ take (n - length x) y
+      go (yes h) =
+          let none : n - length x ≡ 0 = omega arith in
+          take-append-le n x y h ∙ sym (append-nil (take n x)) ∙ ap (λ (k : ℕ). take n x ++ take k y) (sym none)
+      go (no h) =
+          let l = lt-of-not-le h in
+          let e : n ≡ length x + (n - length x) = omega (arith, l) in
+          ap (λ (k : ℕ). take k (x ++ y)) e ∙ take-append-add x y (n - length x) ∙ ap (λ (b : List ℕ). b ++ take (n - length x) y) (sym (take-all n x (omega (arith, l))))
+
+  pub drop-append : drop n (x ++ y) ≡ drop n x ++ drop (n - length x) y
+  drop-append = go (decLe n (length x))
+    where
+      go : Dec (n ≤ length x) → drop n (x ++ y) ≡ drop n x ++ drop (n - length x) y
+      go (yes h) = let none : n - length x ≡ 0 = omega arith in drop-append-le n x y h ∙ ap (λ (k : ℕ). drop n x ++ drop k y) (sym none)
+      go (no h) =
+          let l = lt-of-not-le h in
+          let e : n ≡ length x + (n - length x) = omega (arith, l) in
+          ap (λ (k : ℕ). drop k (x ++ y)) e ∙ drop-append-add x y (n - length x)
+          ∙ ap (λ (b : List ℕ). b ++ drop (n - length x) y) (sym (drop-of-length-le x {i = n} (omega (arith, l))))
+
+module _ (n : ℕ) (x : List ℕ) where
+  pub take-min : take (min n (length x)) x ≡ take n x
+  take-min = go (decLe n (length x))
+    where
+      go : Dec (n ≤ length x) → take (min n (length x)) x ≡ take n x
+      go (yes h) = let e : min n (length x) ≡ n = omega (arith, h) in ap (λ (k : ℕ). take k x) e
+      go (no h) =
+          let l = lt-of-not-le h in
+          let e : min n (length x) ≡ length x = omega (arith, l) in
+          ap (λ (k : ℕ). take k x) e ∙ take-length x ∙ sym (take-all n x (omega (arith, l)))
+
+  pub drop-min : drop (min n (length x)) x ≡ drop n x
+  drop-min = go (decLe n (length x))
+    where
+      go : Dec (n ≤ length x) → drop (min n (length x)) x ≡ drop n x
+      go (yes h) = let e : min n (length x) ≡ n = omega (arith, h) in ap (λ (k : ℕ). drop k x) e
+      go (no h) =
+          let l = lt-of-not-le h in
+          let e : min n (length x) ≡ length x = omega (arith, l) in
+          ap (λ (k : ℕ). drop k x) e ∙ drop-length x ∙ sym (drop-of-length-le x {i = n} (omega (arith, l)))
 
 -- ---- bytes put at a place
 
@@ -159,17 +206,20 @@ placed-same at count d h =
     rw (length-part at count d h, append-assoc (take at d) (part at count d) (drop (at + count) d), ← drop-drop count at d)
     (ap (λ (l : List ℕ). take at d ++ l) (take-append-drop count (drop at d)) ∙ take-append-drop at d)
 
--- bytes put at the start hide what was put where they stand
-pub placed-over : (at : ℕ) (p q d : List ℕ) → at + length q ≤ length p → length p ≤ length d → placed 0 p (placed at q d) ≡ placed 0 p d
-placed-over at p q d h k =
-    let over : length q ≤ length d - at = omega arith in
-    ap (λ (l : List ℕ). p ++ l)
-    (ext-getD 0 (drop (0 + length p) (placed at q d)) (drop (0 + length p) d)
-    (rw (length-drop (0 + length p) (placed at q d), length-drop (0 + length p) d, length-placed at q d (omega arith)))
+-- bytes put over bytes hide them
+pub placed-hides : (to at : ℕ) (p q d : List ℕ) → to ≤ at → at + length q ≤ to + length p → to + length p ≤ length d
+    → placed to p (placed at q d) ≡ placed to p d
+placed-hides to at p q d before behind fits =
+    let room : at + length q ≤ length d = omega arith in
+    let front : take to (placed at q d) ≡ take to d = part-beside at q d room 0 to (inl (omega arith)) in
+    let back : drop (to + length p) (placed at q d) ≡ drop (to + length p) d =
+    ext-getD 0 (drop (to + length p) (placed at q d)) (drop (to + length p) d)
+    (rw (length-drop (to + length p) (placed at q d), length-drop (to + length p) d, length-placed at q d room))
     (λ i g.
-    getD-drop (0 + length p) (placed at q d) i 0
-    ∙ placed-after at q d (omega arith) (0 + length p + i) (omega arith)
-    ∙ sym (getD-drop (0 + length p) d i 0)))
+    getD-drop (to + length p) (placed at q d) i 0
+    ∙ placed-after at q d room (to + length p + i) (omega arith)
+    ∙ sym (getD-drop (to + length p) d i 0)) in
+    ap₂ (λ (x y : List ℕ). x ++ p ++ y) front back
 
 -- a move to the start, byte by byte: what is read next has not been put over
 module _ (s d : List ℕ) (from count i : ℕ) (there : from + count ≤ length d) (more : i < count) (rest : drop i s ≡ drop i d) where

@@ -5,7 +5,7 @@ use mathlib.Core.Bool.{Bool, true, false}
 use mathlib.Core.List.{List, [], _∷_, _++_, map}
 use Prim.Native.Nat.{ℕ}
 use Rattle.octets.specs.Crc.{crc, mirrored, bits, remainder, message, modulo}
-use Rattle.packets.specs.Instruction.{kindOf, codeOf, typeOf, isVerified, wantsReply, isIncrementing}
+use Rattle.packets.specs.Instruction.{kindOf, codeOf, typeOf, isVerified, wantsReply, isIncrementing, isUnused, isRead, isRmw}
 use Rattle.packets.specs.Path.{withoutLeadingZeros, orOneZero, pathOf, kept}
 use Rattle.packets.specs.Reading.{numberOf, refused, timePacket, readCommand, readProtocol, readPacket}
 use Rattle.packets.specs.Reply.{replyWith, replyOf}
@@ -46,6 +46,14 @@ table-5-1 : map kindOf (0 ∷ 1 ∷ 2 ∷ 3 ∷ 4 ∷ 5 ∷ 6 ∷ 7 ∷ 8 ∷ 9 
     ∷ Write ∷ Write ∷ Write ∷ Write ∷ Write ∷ Write ∷ Write ∷ Write ∷ []
 unfolding kindOf
 table-5-1 = refl
+
+-- each kind but the write has a test of its own
+abbrev told-as : Kind → Bool × Bool × Bool
+told-as k = (isUnused k, isRead k, isRmw k)
+
+told-apart : map told-as (Unused ∷ Read ∷ ReadModifyWrite ∷ Write ∷ [])
+    ≡ (true, false, false) ∷ (false, true, false) ∷ (false, false, true) ∷ (false, false, false) ∷ []
+told-apart = refl
 
 -- ---- document 01, 'Numbers a caller gets'
 

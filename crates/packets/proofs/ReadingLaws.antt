@@ -178,9 +178,12 @@ module _ (p : List ℕ) (n : ℕ) (h : Header) (is : readPacket p n .reading ≡
   parts-read : partsAt p (4 + replyAddressSize (instructionAt p)) ≡ h
   parts-read = ap (λ (k : Packet). header-or h (k .reading)) (shown .2)
 
-  -- its header is whole
+  -- its header has the size that the third byte tells, and is whole
+  pub size-read : headerSize (h .instruction) ≡ headerSize (instructionAt p)
+  size-read = sym (ap (λ (k : Header). headerSize (k .instruction)) parts-read)
+
   pub header-whole : headerSize (h .instruction) ≤ length p
-  header-whole = omega (arith, shown .0, ap (λ (k : Header). headerSize (k .instruction)) parts-read)
+  header-whole = omega (arith, shown .0, size-read)
 
   -- its protocol is the second byte, 01 or 03
   pub protocol-read : h .protocol ≡ getD p 1 0

@@ -13,7 +13,7 @@ use lib.Seq.{take-length}
 use Rattle.octets.specs.Places.{part, placed, copied, filled}
 use Rattle.octets.specs.Numbers.{bytesOf}
 use Rattle.octets.specs.Crc.{crc, withCrc}
-use Rattle.octets.proofs.PlaceLaws.{length-placed, length-part, part-placed, part-beside, placed-on, placed-same, placed-over}
+use Rattle.octets.proofs.PlaceLaws.{length-placed, length-part, part-placed, part-beside, placed-on, placed-same, placed-hides}
 use Rattle.octets.proofs.PlaceLaws.{copied-done, copied-none, length-copied, filled-done, filled-none, length-filled, placed-if-length, first-true, second-true}
 use Rattle.packets.specs.Instruction.{isWrite}
 use Rattle.packets.specs.Path.{pathBytes}
@@ -195,7 +195,7 @@ module _ (k : Path) (h : Header) (status n m : ℕ) (counts : m ≡ carriedCount
             ap (part at m) f ∙ rw (← size) (part-placed at c out (omega (arith, size))) in
             let long : length (replyWith k h status c) ≡ length (pathBytes k) + (13 + length c) =
             length-with k h status c ∙ ap (λ (b : Bool). length (pathBytes k) + cond b 8 (13 + length c)) w in
-            rw (there, f) (placed-over at (replyWith k h status c) c out (omega (arith, size)) (omega (arith, size)))
+            rw (there, f) (placed-hides 0 at (replyWith k h status c) c out (omega arith) (omega (arith, size)) (omega (arith, size)))
 
     -- the same, where a copy or a fill put them there
     pub reply-copied : (d : List ℕ) {first then : List ℕ} (size : ℕ) → length d ≡ n → t ≡ true → size ≡ length (pathBytes k)

@@ -5,7 +5,9 @@ use lib.ListN.{getD}
 use Rattle.octets.specs.Places.{part}
 use Rattle.octets.specs.Numbers.{number, bytesOf}
 use Rattle.octets.specs.Crc.{withCrc}
+use Rattle.packets.specs.Instruction.{codeOf, kindOf}
 use Rattle.packets.specs.declared.instruction.Instruction.{Instruction}
+use Rattle.packets.specs.declared.instruction.Kind.{Kind}
 use Rattle.packets.specs.declared.header.Header.{Header}
 
 -- From parts to bytes, in order. In front of the reply address: target logical address, protocol, instruction, key.
@@ -37,3 +39,7 @@ partsAt p at = record {
   address = number (part (at + 4) 4 p);
   length = number (part (at + 8) 3 p);
 }
+
+-- The kind of a command, by its code.
+abbrev pub kindIn : Header → Kind
+kindIn h = kindOf (codeOf (h .instruction))

@@ -1,5 +1,5 @@
 -- The instruction byte (document 01, 'Reading a packet'; 001, 5.1.4).
-use mathlib.Core.Bool.{Bool, cond, _||_}
+use mathlib.Core.Bool.{Bool, true, false, cond, _||_}
 use Prim.Native.Nat.{ℕ, _+_, _*_, _/_, _%_, _^_}
 use lib.Dec.{eqb, leb}
 use Rattle.packets.specs.declared.instruction.Instruction.{Instruction}
@@ -40,6 +40,24 @@ unfoldable pub kindOf : ℕ → Kind
 kindOf code =
     cond (eqb code 0b0010 || eqb code 0b0011) Read
     (cond (eqb code 0b0111) ReadModifyWrite (cond (leb 0b1000 code) Write Unused))
+
+abbrev pub isUnused : Kind → Bool
+isUnused Unused = true
+isUnused Read = false
+isUnused ReadModifyWrite = false
+isUnused Write = false
+
+abbrev pub isRead : Kind → Bool
+isRead Unused = false
+isRead Read = true
+isRead ReadModifyWrite = false
+isRead Write = false
+
+abbrev pub isRmw : Kind → Bool
+isRmw Unused = false
+isRmw Read = false
+isRmw ReadModifyWrite = true
+isRmw Write = false
 
 -- The reply address has 4r bytes, and the header 16 + 4r.
 abbrev pub replyAddressSize : Instruction → ℕ

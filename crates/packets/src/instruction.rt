@@ -2,7 +2,7 @@
 ghost use mathlib.Core.Path.{_≡_};
 ghost use Prim.Native.Nat.{_+_, _*_};
 ghost use Rattle.packets.specs.Instruction.{typeOf, codeOf, kindOf, isWrite, isVerified, wantsReply, isIncrementing, rOf};
-ghost use Rattle.packets.specs.Instruction.{replyAddressSize, headerSize, replyForm};
+ghost use Rattle.packets.specs.Instruction.{replyAddressSize, headerSize, replyForm, isUnused, isRead, isRmw};
 
 // What a command code asks for.
 pub enum Kind {
@@ -10,6 +10,42 @@ pub enum Kind {
     Read,
     ReadModifyWrite,
     Write,
+}
+
+impl Kind {
+    pub fn is_unused(self) -> bool
+        ensures { λ t. ⌜ t ≡ isUnused self ⌝ }
+    {
+        match self {
+            Kind::Unused => true,
+            Kind::Read => false,
+            Kind::ReadModifyWrite => false,
+            Kind::Write => false,
+        }
+    }
+
+    pub fn is_read(self) -> bool
+        ensures { λ t. ⌜ t ≡ isRead self ⌝ }
+    {
+        match self {
+            Kind::Unused => false,
+            Kind::Read => true,
+            Kind::ReadModifyWrite => false,
+            Kind::Write => false,
+        }
+    }
+
+    // Whether it is the read-modify-write.
+    pub fn is_rmw(self) -> bool
+        ensures { λ t. ⌜ t ≡ isRmw self ⌝ }
+    {
+        match self {
+            Kind::Unused => false,
+            Kind::Read => false,
+            Kind::ReadModifyWrite => true,
+            Kind::Write => false,
+        }
+    }
 }
 
 // The kind of each of the sixteen command codes (001, Table 5-1).

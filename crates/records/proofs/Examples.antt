@@ -5,6 +5,8 @@ use Prim.Native.Nat.{ℕ}
 use Rattle.packets.specs.Path.{pathOf, orOneZero, withoutLeadingZeros}
 use Rattle.packets.specs.Reading.{readPacket, readProtocol}
 use Rattle.unit.specs.Usable.{usableUnit, usable}
+use Rattle.unit.specs.Counters.{countedFor}
+use Rattle.unit.specs.Judge.{judged}
 use Rattle.unit.specs.Calls.{takePacket}
 use Rattle.unit.specs.declared.fate.Status.the-variants.{NotAuthorised}
 use Rattle.unit.specs.declared.fate.Fate.the-variants.{Replied}
@@ -18,18 +20,18 @@ log = 0x5A ∷ 0x57 ∷ 0x01 ∷ 0x03 ∷ 0x00 ∷ 0x00 ∷ 0x02 ∷ 0xFE ∷ 0x
 
 pub example : meaning log
     ≡ 0x69 ∷ 0x74 ∷ 0x65 ∷ 0x6D ∷ 0x20 ∷ 0x66 ∷ 0x61 ∷ 0x74 ∷ 0x65 ∷ 0x20 ∷ 0x73 ∷ 0x74 ∷ 0x61 ∷ 0x74 ∷ 0x75 ∷ 0x73 ∷ 0x20 ∷ 0x72 ∷ 0x65 ∷ 0x70 ∷ 0x6C ∷ 0x79 ∷ 0x0A ∷ 0x31 ∷ 0x20 ∷ 0x31 ∷ 0x32 ∷ 0x20 ∷ 0x2D ∷ 0x20 ∷ 0x30 ∷ 0x0A ∷ 0x65 ∷ 0x6E ∷ 0x64 ∷ 0x20 ∷ 0x31 ∷ 0x0A ∷ []
-unfolding readRecord decimal recordLine lines takePacket usable usableUnit pathOf orOneZero withoutLeadingZeros readPacket readProtocol
+unfolding readRecord decimal recordLine lines takePacket judged countedFor usable usableUnit pathOf orOneZero withoutLeadingZeros readPacket readProtocol
 example = refl
 
 -- with a byte more, the third line is 'bad 9'
 pub stray : meaning (log ++ (0x5A ∷ []))
     ≡ 0x69 ∷ 0x74 ∷ 0x65 ∷ 0x6D ∷ 0x20 ∷ 0x66 ∷ 0x61 ∷ 0x74 ∷ 0x65 ∷ 0x20 ∷ 0x73 ∷ 0x74 ∷ 0x61 ∷ 0x74 ∷ 0x75 ∷ 0x73 ∷ 0x20 ∷ 0x72 ∷ 0x65 ∷ 0x70 ∷ 0x6C ∷ 0x79 ∷ 0x0A ∷ 0x31 ∷ 0x20 ∷ 0x31 ∷ 0x32 ∷ 0x20 ∷ 0x2D ∷ 0x20 ∷ 0x30 ∷ 0x0A ∷ 0x62 ∷ 0x61 ∷ 0x64 ∷ 0x20 ∷ 0x39 ∷ 0x0A ∷ []
-unfolding readRecord decimal recordLine lines takePacket usable usableUnit pathOf orOneZero withoutLeadingZeros readPacket readProtocol
+unfolding readRecord decimal recordLine lines takePacket judged countedFor usable usableUnit pathOf orOneZero withoutLeadingZeros readPacket readProtocol
 stray = refl
 
 -- and no bytes print 'end 0'
 pub nothing : meaning [] ≡ heading ++ (0x65 ∷ 0x6E ∷ 0x64 ∷ 0x20 ∷ 0x30 ∷ 0x0A ∷ [])
-unfolding readRecord decimal recordLine lines takePacket usable usableUnit pathOf orOneZero withoutLeadingZeros readPacket readProtocol
+unfolding readRecord decimal recordLine lines takePacket judged countedFor usable usableUnit pathOf orOneZero withoutLeadingZeros readPacket readProtocol
 nothing = refl
 
 -- 0, 9, 10, and the greatest number of 64 bits

@@ -8,7 +8,7 @@ use lib.ListN.{length, drop, length-drop, length-append}
 use lib.Seq.{drop-append-le}
 use Rattle.unit.specs.Calls.{Outcome, takePacket}
 use Rattle.records.specs.Record.{readRecord, sizeOf}
-use Rattle.records.specs.Log.{Held, outcomeOf, lineFor, heldAfter, lastLine, byRecord, linesIn, lines}
+use Rattle.records.specs.Log.{Held, lentBy, outcomeOf, lineFor, heldAfter, lastLine, byRecord, linesIn, lines}
 use Rattle.records.specs.Run.{heldAt}
 use Rattle.records.specs.declared.record.Item.{Item}
 use Rattle.records.specs.declared.record.Item.the-variants.{Packet, TimeCode, Ticks}
@@ -90,7 +90,7 @@ stage-aside (suc n) s h stage = go (readRecord s) (λ item. stage-aside n (drop 
 
 -- a packet is the same whatever comes behind its record
 called-more : (item : Item) (s t : List ℕ) (h : Held) → sizeOf item ≤ length s → outcomeOf item (s ++ t) h ≡ outcomeOf item s h
-called-more (Packet end link size) s t h l = ap (λ (p : List ℕ). takePacket (h .bench .unit) p end link (h .memory) (h .reply)) (more-part s t 7 size l)
+called-more (Packet end link size) s t h l = ap (λ (p : List ℕ). takePacket (h .bench .unit) (record { packet = p; end = end; link = link }) (lentBy h)) (more-part s t 7 size l)
 called-more (TimeCode byte) s t h l = refl
 called-more (Ticks count) s t h l = refl
 

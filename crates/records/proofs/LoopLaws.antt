@@ -13,7 +13,7 @@ use Rattle.octets.specs.Places.{placed}
 use Rattle.octets.proofs.PlaceLaws.{take-placed, drop-placed}
 use Rattle.records.specs.Between.{Says}
 use Rattle.records.specs.Text.{endLine, badLine}
-use Rattle.records.specs.Log.{numberAfter, Held, outcomeOf, lastLine}
+use Rattle.records.specs.Log.{numberAfter, Held, lentBy, outcomeOf, lastLine}
 use Rattle.records.specs.Run.{nextOf, isSilence, Progress, textOf, stepped, longestLine, nextIn, goesOn, stepsLeft, ran, answerOf}
 use Rattle.records.specs.declared.bench.Bench.{Bench}
 use Rattle.records.specs.declared.log.Ran.{Ran}
@@ -35,7 +35,7 @@ pub text-length : (next : Next) (s : List ℕ) (h : Held) → length (textOf nex
 text-length Heading s h = omega arith
 text-length (Line item) s h =
     let o = outcomeOf item s h in
-    let f = call-fits item s (h .bench .unit) (h .memory) (h .reply) in
+    let f = call-fits item s (h .bench .unit) (lentBy h) in
     omega (arith, line-length (numberAfter (h .bench)) (o .answer .fate) (take (o .answer .length) (o .reply)), length-take (o .answer .length) (o .reply), f .1)
 text-length Last s h = omega (arith, last-length s (h .bench))
 text-length Silence s h = omega arith

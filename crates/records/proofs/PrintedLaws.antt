@@ -14,7 +14,7 @@ use Rattle.unit.specs.Fate.{fateNumber, fateStatus}
 use Rattle.unit.specs.declared.fate.Fate.{Fate}
 use Rattle.records.specs.Record.{readRecord, sizeOf}
 use Rattle.records.specs.Text.{decimal, spaced, ended, statusText, replyText, recordLine, heading, endLine, badLine}
-use Rattle.records.specs.Log.{startHeld, numberAfter, Held, outcomeOf, lineFor, lastLine, lines}
+use Rattle.records.specs.Log.{startHeld, numberAfter, Held, lentBy, outcomeOf, lineFor, lastLine, lines}
 use Rattle.records.specs.Run.{nextFor, nextOf, isSilence, Progress, leftBy, usedBy, textOf, longestLine, nextIn, goesOn, ran, begun}
 use Rattle.records.specs.Printed.{byStage, toCome, Calls, none, call, PrintsMeaning, OneCall, NoStandstill, CutIsShort}
 use Rattle.records.specs.declared.record.Record.{Record}
@@ -75,7 +75,7 @@ text-some Silence s h e = absurd (false≢true (sym e))
 
 reply-stays : (next : Next) (s : List ℕ) (h : Held) → length (leftBy next s h .reply) ≡ length (h .reply)
 reply-stays Heading s h = refl
-reply-stays (Line item) s h = call-fits item s (h .bench .unit) (h .memory) (h .reply) .1
+reply-stays (Line item) s h = call-fits item s (h .bench .unit) (lentBy h) .1
 reply-stays Last s h = refl
 reply-stays Silence s h = refl
 

@@ -7,8 +7,8 @@ use Prim.Native.Nat.{ℕ, zero, suc, _+_, _-_, _/_, _<_, _≤_}
 use borrow.Author.Tests.{not-true}
 use lib.Dec.{leb}
 use lib.ListN.{length, take, drop, length-drop}
-use Rattle.octets.specs.Places.{part}
 use Rattle.octets.proofs.PlaceLaws.{same-test, second-true}
+use Rattle.unit.specs.Given.{Lent}
 use Rattle.unit.specs.Calls.{Outcome}
 use Rattle.unit.specs.declared.unit.Unit.{Unit as TheUnit}
 use Rattle.unit.proofs.CallLaws.{packet-length, reply-fits, code-length, ticks-length}
@@ -16,7 +16,7 @@ use Rattle.unit.specs.declared.calls.Answer.{Answer}
 use Rattle.records.specs.Between.{Put, Says, Fits}
 use Rattle.records.specs.Record.{readRecord, sizeOf}
 use Rattle.records.specs.Text.{recordLine}
-use Rattle.records.specs.Log.{numberAfter, Held, called, outcomeOf, benchAfter, heldAfter}
+use Rattle.records.specs.Log.{numberAfter, Held, arrivedIn, called, lentBy, outcomeOf, benchAfter, heldAfter}
 use Rattle.records.specs.declared.record.Item.{Item}
 use Rattle.records.specs.declared.record.Item.the-variants.{Packet, TimeCode, Ticks}
 use Rattle.records.specs.Run.{nextFor, nextOf, isSilence, Progress, atStage, heldAt, leftBy, usedBy, stepped, longestLine, nextIn, goesOn, ranIn, steps, stepsLeft, ran}
@@ -37,24 +37,20 @@ half-room room reply h =
 -- ---- a call
 
 -- its reply stands in its buffer, which keeps its length
-pub call-fits : (item : Item) (s : List ℕ) (u : TheUnit) (m r : List ℕ)
-    → (called item s u m r .answer .length ≤ length (called item s u m r .reply)) × (length (called item s u m r .reply) ≡ length r)
-call-fits (Packet end link size) s u m r =
-    let long = packet-length u (part 7 size s) end link m r .1 in
-    (omega (arith, long, reply-fits u (part 7 size s) end link m r), long)
-call-fits (TimeCode byte) s u m r = (omega (arith, code-length u byte), refl)
-call-fits (Ticks count) s u m r = (omega (arith, ticks-length u count), refl)
-
--- an outcome by its parts
-pub outcome-is : (o : Outcome) (a : Answer) (m r : List ℕ) → a ≡ o .answer → m ≡ o .memory → r ≡ o .reply
-    → _≡_ {A = Outcome} (record { answer = a; memory = m; reply = r }) o
-outcome-is o a m r e f g = λ i. record { answer = e i; memory = f i; reply = g i }
+pub call-fits : (item : Item) (s : List ℕ) (u : TheUnit) (lent : Lent)
+    → (called item s u lent .answer .length ≤ length (called item s u lent .reply)) × (length (called item s u lent .reply) ≡ length (lent .reply))
+call-fits (Packet end link size) s u lent =
+    let p = arrivedIn s end link size in
+    let long = packet-length u p lent .1 in
+    (omega (arith, long, reply-fits u p lent), long)
+call-fits (TimeCode byte) s u lent = (omega (arith, code-length u byte), refl)
+call-fits (Ticks count) s u lent = (omega (arith, ticks-length u count), refl)
 
 module _ (item : Item) (s : List ℕ) (h : Held) (a : Answer) (m r : List ℕ) (is : record { answer = a; memory = m; reply = r } ≡ outcomeOf item s h) where
   pub answer-fits : (a .length ≤ length r) × (length r ≡ length (h .reply))
   answer-fits =
       subst (λ (o : Outcome). (o .answer .length ≤ length (o .reply)) × (length (o .reply) ≡ length (h .reply))) (sym is)
-      (call-fits item s (h .bench .unit) (h .memory) (h .reply))
+      (call-fits item s (h .bench .unit) (lentBy h))
 
   -- a step that printed the line of a call
   pub says-item : (at : ℕ) (d d′ : List ℕ) (b : Bench) (size used written : ℕ) → size ≡ sizeOf item → b ≡ benchAfter a size (h .bench) → used ≡ size

@@ -5,7 +5,6 @@ use mathlib.Core.List.{List, []}
 use Prim.Native.Nat.{ℕ}
 use lib.ListN.{length}
 use Rattle.octets.specs.Numbers.{Digits}
-use Rattle.octets.specs.Places.{part}
 use Rattle.octets.proofs.NumberLaws.{digits-part}
 use Rattle.packets.specs.Path.{pathOf, orOneZero, withoutLeadingZeros}
 use Rattle.unit.specs.Usable.{usableUnit, usable}
@@ -14,7 +13,7 @@ use Rattle.unit.specs.declared.fate.Fate.the-variants.{TimeChanged}
 use Rattle.unit.proofs.CallLaws.{packet-length}
 use Rattle.unit.proofs.UsableLaws.{alone, usable-packet, code-with-memory, ticks-with-memory}
 use Rattle.records.specs.Text.{recordLine}
-use Rattle.records.specs.Log.{numberAfter, benchUnit, Held, outcomeOf, lineFor, heldAfter}
+use Rattle.records.specs.Log.{numberAfter, benchUnit, Held, arrivedIn, lentBy, outcomeOf, lineFor, heldAfter}
 use Rattle.records.specs.Record.{sizeOf}
 use Rattle.records.specs.declared.record.Item.{Item}
 use Rattle.records.specs.declared.record.Item.the-variants.{Packet, TimeCode, Ticks}
@@ -30,8 +29,8 @@ Works h = usable (h .bench .unit) (length (h .memory)) ≡ true
 pub stays-usable : (item : Item) (s : List ℕ) (h : Held) → Digits 256 s → Works h → Works (heldAfter (outcomeOf item s h) (sizeOf item) h)
 stays-usable (Packet end link size) s h d e =
     let u = h .bench .unit in
-    let p = part 7 size s in
-    rw (packet-length u p end link (h .memory) (h .reply) .0) (usable-packet u p end link (h .memory) (h .reply) (digits-part s 7 size d) e)
+    let p = arrivedIn s end link size in
+    rw (packet-length u p (lentBy h) .0) (usable-packet u p (lentBy h) (digits-part s 7 size d) e)
 stays-usable (TimeCode byte) s h d e = code-with-memory (h .bench .unit) (length (h .memory)) byte e
 stays-usable (Ticks count) s h d e = ticks-with-memory (h .bench .unit) (length (h .memory)) count e
 

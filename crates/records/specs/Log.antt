@@ -5,7 +5,9 @@ use Prim.Native.Nat.{ℕ, zero, suc, _+_, _%_, _^_}
 use lib.Dec.{eqb}
 use lib.ListN.{length, take, drop, replicate}
 use Rattle.octets.specs.Places.{part}
+use Rattle.packets.specs.declared.reading.End.{End}
 use Rattle.unit.specs.Owner.{unowned}
+use Rattle.unit.specs.Given.{Arrived, Lent}
 use Rattle.unit.specs.Calls.{Outcome, leaving, takePacket, takeTimeCode, takeTicks}
 use Rattle.unit.specs.declared.windows.Window.{Window}
 use Rattle.unit.specs.declared.clock.Waiting.the-variants.{NoValue}
@@ -66,14 +68,21 @@ pub record Held : Type 0 where
 abbrev pub startHeld : Held
 startHeld = record { bench = startBench; memory = replicate 4096 0; reply = replicate 8192 0 }
 
--- The call on a unit that an item of the log s stands for, with memory m and reply buffer r. A packet is the body.
-abbrev pub called : Item → List ℕ → TheUnit → List ℕ → List ℕ → Outcome
-called (Packet end link size) s u m r = takePacket u (part 7 size s) end link m r
-called (TimeCode byte) s u m r = leaving (takeTimeCode u byte) m r
-called (Ticks count) s u m r = leaving (takeTicks u count) m r
+-- A packet is the body of its record in the log s.
+abbrev pub arrivedIn : List ℕ → End → ℕ → ℕ → Arrived
+arrivedIn s end link size = record { packet = part 7 size s; end = end; link = link }
+
+-- The call on a unit that an item of the log s stands for, with what is lent to it.
+abbrev pub called : Item → List ℕ → TheUnit → Lent → Outcome
+called (Packet end link size) s u lent = takePacket u (arrivedIn s end link size) lent
+called (TimeCode byte) s u lent = leaving (takeTimeCode u byte) lent
+called (Ticks count) s u lent = leaving (takeTicks u count) lent
+
+abbrev pub lentBy : Held → Lent
+lentBy h = record { memory = h .memory; reply = h .reply }
 
 abbrev pub outcomeOf : Item → List ℕ → Held → Outcome
-outcomeOf item s h = called item s (h .bench .unit) (h .memory) (h .reply)
+outcomeOf item s h = called item s (h .bench .unit) (lentBy h)
 
 -- The number of the next record, from 1 on. Numbers of records and of bytes have 64 bits here, which no log uses up.
 abbrev pub numberAfter : Bench → ℕ

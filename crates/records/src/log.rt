@@ -213,7 +213,7 @@ fn say_item(
 // The call that an item stands for. The body of a packet stands behind seven bytes.
 fn call(item: Item, unit: Unit, log: &[u8], memory: &mut [u8], reply: &mut [u8]) -> Answer
     requires { ⌜ sizeOf item ≤ length (now log) ⌝ }
-    ensures { λ a. ⌜ record { answer = a; memory = now (memory .exit); reply = now (reply .exit) } ≡ called item (now (log .entry)) unit (now (memory .entry)) (now (reply .entry)) ⌝ }
+    ensures { λ a. ⌜ record { answer = a; memory = now (memory .exit); reply = now (reply .exit) } ≡ called item (now (log .entry)) unit (record { memory = now (memory .entry); reply = now (reply .entry) }) ⌝ }
 {
     match item {
         Item::Packet(end, link, size) => {

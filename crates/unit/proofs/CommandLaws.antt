@@ -3,12 +3,13 @@
 use mathlib.Core.Path.{_≡_, refl}
 use mathlib.Core.Bool.{Bool, true, false, cond, not}
 use mathlib.Core.List.{List, []}
-use Prim.Native.Nat.{ℕ, _+_, _-_}
+use Prim.Native.Nat.{ℕ, _+_}
 use lib.Dec.{eqb}
-use lib.ListN.{length, drop}
+use lib.ListN.{length}
 use Rattle.octets.specs.Places.{part}
 use Rattle.octets.specs.Numbers.{number}
 use Rattle.packets.specs.Instruction.{wantsReply, headerSize}
+use Rattle.packets.specs.Header.{kindIn}
 use Rattle.packets.specs.Reading.{readPacket}
 use Rattle.packets.specs.Reply.{replyLength, replied}
 use Rattle.packets.specs.Time.{readTime}
@@ -16,7 +17,6 @@ use Rattle.packets.specs.declared.instruction.Kind.{Kind}
 use Rattle.packets.specs.declared.instruction.Kind.the-variants.{Unused, Read, ReadModifyWrite, Write}
 use Rattle.packets.specs.declared.header.Header.{Header}
 use Rattle.packets.specs.declared.path.Path.{Path}
-use Rattle.packets.specs.declared.reading.End.{End}
 use Rattle.packets.specs.declared.reading.Reading.{Reading}
 use Rattle.packets.specs.declared.reading.Reading.the-variants.{Refused, Time, Command}
 use Rattle.packets.specs.declared.reading.Refusal.{Refusal}
@@ -29,10 +29,12 @@ use Rattle.unit.specs.Clock.{afterTime, timeCodeWritten}
 use Rattle.unit.specs.Owner.{swapped}
 use Rattle.unit.specs.Fields.{rowOf, timeCodeCounter, divider, dividerWritten}
 use Rattle.unit.specs.Usable.{usableUnit, usable}
-use Rattle.unit.specs.Decide.{kindIn, headerStatus, wantedCount, dataStatus}
-use Rattle.unit.specs.Plan.{actionOf, memoryAction, fieldActionOf, fieldAction, unansweredFate, replyCount, plannedFor}
+use Rattle.unit.specs.Given.{Arrived, Lent, sizesOf}
+use Rattle.unit.specs.Decide.{headerStatus, allAtHand, dataCount, dataStatusOf}
+use Rattle.unit.specs.Plan.{actionOf, fieldActionOf, unansweredFate, replyCount, plannedFor, decided}
+use Rattle.unit.specs.Judge.{timeRuling, rulingOn, outright, judgedAs, isLink, judged}
 use Rattle.unit.specs.Act.{stored, dataFor, repliedTo, withOwner, withFields, withClock, fieldWritten, changed, countedUnit}
-use Rattle.unit.specs.Calls.{Outcome, withoutReply, leaving, acted, takeTime, takeCommand, takeReading, isLink, takePacket, smallCall}
+use Rattle.unit.specs.Calls.{Outcome, withoutReply, leaving, acted, doneBy, done, takePacket, smallCall}
 use Rattle.unit.specs.declared.fate.Status.{Status}
 use Rattle.unit.specs.declared.fate.Fate.{Fate}
 use Rattle.unit.specs.declared.fate.Fate.the-variants.{TimeChanged, Unusable, NoSuchLink, NoRoom, Unread, TimeThrownAway, NotObeyed, Obeyed, TimeTaken, Replied}
@@ -40,69 +42,96 @@ use Rattle.unit.specs.declared.calls.Answer.{Answer}
 use Rattle.unit.specs.declared.decide.Action.{Action}
 use Rattle.unit.specs.declared.decide.Action.the-variants.{Nothing}
 use Rattle.unit.specs.declared.decide.Plan.{Plan}
+use Rattle.unit.specs.declared.judging.Ruling.{Ruling}
+use Rattle.unit.specs.declared.judging.Judgement.{Judgement}
 use Rattle.unit.specs.declared.unit.Unit.{Unit as TheUnit}
-use Rattle.unit.proofs.PlanLaws.{action-is, planned-is, decided-is}
+use Rattle.unit.proofs.PlanLaws.{action-is, memoryActionIn, fieldActionIn, planned-is, decided-is}
 use Rattle.unit.proofs.MemoryLaws.{fields-store-none}
+
+-- what is lent, with another memory
+abbrev pub withMemory : Lent → List ℕ → Lent
+withMemory lent n = record { memory = n; reply = lent .reply }
+
+-- a command that was judged, done
+unfoldable pub takeCommand : TheUnit → Header → Path → Arrived → Lent → Outcome
+takeCommand u h path p lent = acted (decided u h path p (length (lent .reply))) u h path (p .packet) (p .link) lent
 
 -- ---- a packet: 1, 2, refused as it was read, a time packet thrown away or taken, or a command
 
-module _ (u : TheUnit) (p : List ℕ) (end : End) (link : ℕ) where
+module _ (u : TheUnit) (p : Arrived) where
   abbrev path : Path
-  path = readPacket p (u .number) .path
+  path = readPacket (p .packet) (u .number) .path
 
   abbrev read : Reading
-  read = readPacket p (u .number) .reading
+  read = readPacket (p .packet) (u .number) .reading
+
+  abbrev time : TimeReading
+  time = readTime (p .packet) (p .end) (u .logical) (u .number)
+
+  -- the fate is all, counted; and the time is taken
+  abbrev ended : Fate → Answer
+  ended fate = withoutReply fate (countedUnit fate u)
+
+  abbrev timed : TheTime → Answer
+  timed t = withoutReply TimeTaken (countedUnit TimeTaken (withClock u (afterTime (u .clock) t)))
 
   -- on two memories of one length it goes the same way
-  module _ (m n r : List ℕ) (long : length m ≡ length n) (R : Outcome → Outcome → Type 0) where
+  module _ (lent : Lent) (n : List ℕ) (long : length (lent .memory) ≡ length n) (R : Outcome → Outcome → Type 0) where
     abbrev Both : Answer → Type 0
-    Both a = R (leaving a m r) (leaving a n r)
+    Both a = R (leaving a lent) (leaving a (withMemory lent n))
 
-    times-are : (t : TimeReading) → (t ≡ ThrownAway → Both (takeTime ThrownAway u)) → ((s : TheTime) → t ≡ Taken s → Both (takeTime (Taken s) u)) → Both (takeTime t u)
+    -- one ruling, carried out on both
+    abbrev Rules : Ruling → Type 0
+    Rules r = R (doneBy r path u (p .packet) (p .link) lent) (doneBy r path u (p .packet) (p .link) (withMemory lent n))
+
+    times-are : (t : TimeReading) → (t ≡ ThrownAway → Both (ended TimeThrownAway)) → ((s : TheTime) → t ≡ Taken s → Both (timed s)) → Rules (timeRuling t)
     times-are ThrownAway away taken = away refl
     times-are (Taken s) away taken = taken s refl
 
-    readings-are : (q : Reading) → ((why : Refusal) → q ≡ Refused why → Both (withoutReply (Unread why) (countedUnit (Unread why) u)))
-        → (q ≡ Time → Both (takeTime (readTime p end (u .logical) (u .number)) u))
-        → ((h : Header) → q ≡ Command h → R (takeCommand u h path p end link m r) (takeCommand u h path p end link n r))
-        → R (takeReading q u path p end link m r) (takeReading q u path p end link n r)
+    readings-are : (q : Reading) → ((why : Refusal) → q ≡ Refused why → Both (ended (Unread why))) → (q ≡ Time → Rules (timeRuling time))
+        → ((h : Header) → q ≡ Command h → R (takeCommand u h path p lent) (takeCommand u h path p (withMemory lent n)))
+        → Rules (rulingOn q path u p (sizesOf lent))
+    unfolding takeCommand
     readings-are (Refused why) refused time command = refused why refl
     readings-are Time refused time command = time refl
     readings-are (Command h) refused time command = command h refl
 
-    pub packets-are : (usable u (length m) ≡ false → Both (withoutReply Unusable u))
-        → (usable u (length m) ≡ true → isLink u link ≡ false → Both (withoutReply NoSuchLink u))
-        → (usable u (length m) ≡ true → isLink u link ≡ true → (why : Refusal) → read ≡ Refused why → Both (withoutReply (Unread why) (countedUnit (Unread why) u)))
-        → (usable u (length m) ≡ true → isLink u link ≡ true → read ≡ Time → readTime p end (u .logical) (u .number) ≡ ThrownAway
-        → Both (takeTime ThrownAway u))
-        → (usable u (length m) ≡ true → isLink u link ≡ true → read ≡ Time → (t : TheTime) → readTime p end (u .logical) (u .number) ≡ Taken t
-        → Both (takeTime (Taken t) u))
-        → (usable u (length m) ≡ true → isLink u link ≡ true → (h : Header) → read ≡ Command h
-        → R (takeCommand u h path p end link m r) (takeCommand u h path p end link n r))
-        → R (takePacket u p end link m r) (takePacket u p end link n r)
-    unfolding takePacket
-    packets-are one two refused away taken command = rw (← long) (go (usable u (length m)) (isLink u link) refl refl)
+    abbrev Works : Bool → Type 0
+    Works t = usable u (length (lent .memory)) ≡ t
+
+    abbrev Linked : Bool → Type 0
+    Linked t = isLink u (p .link) ≡ t
+
+    pub packets-are : (Works false → Both (withoutReply Unusable u))
+        → (Works true → Linked false → Both (withoutReply NoSuchLink u))
+        → (Works true → Linked true → (why : Refusal) → read ≡ Refused why → Both (ended (Unread why)))
+        → (Works true → Linked true → read ≡ Time → time ≡ ThrownAway → Both (ended TimeThrownAway))
+        → (Works true → Linked true → read ≡ Time → (t : TheTime) → time ≡ Taken t → Both (timed t))
+        → (Works true → Linked true → (h : Header) → read ≡ Command h → R (takeCommand u h path p lent) (takeCommand u h path p (withMemory lent n)))
+        → R (takePacket u p lent) (takePacket u p (withMemory lent n))
+    unfolding takePacket judged countedFor
+    packets-are one two refused away taken command = rw (← long) (go (usable u (length (lent .memory))) (isLink u (p .link)) refl refl)
       where
-        go : (t s : Bool) → usable u (length m) ≡ t → isLink u link ≡ s
-            → R (cond (not t) (leaving (withoutReply Unusable u) m r) (cond (not s) (leaving (withoutReply NoSuchLink u) m r) (takeReading read u path p end link m r)))
-            (cond (not t) (leaving (withoutReply Unusable u) n r) (cond (not s) (leaving (withoutReply NoSuchLink u) n r) (takeReading read u path p end link n r)))
+        ruled : Bool → Bool → Judgement
+        ruled t s = cond (not t) (outright Unusable) (cond (not s) (outright NoSuchLink) (judgedAs (readPacket (p .packet) (u .number)) u p (sizesOf lent)))
+
+        go : (t s : Bool) → Works t → Linked s
+            → R (done (ruled t s) u (p .packet) (p .link) lent) (done (ruled t s) u (p .packet) (p .link) (withMemory lent n))
         go false s e f = one e
         go true false e f = two e f
-        go true true e f =
-            readings-are read (refused e f) (λ g. times-are (readTime p end (u .logical) (u .number)) (away e f g) (taken e f g)) (command e f)
+        go true true e f = readings-are read (refused e f) (λ g. times-are time (away e f g) (taken e f g)) (command e f)
 
   -- and on one memory
-  module _ (m r : List ℕ) (Q : Outcome → Type 0) where
-    pub packet-is : (usable u (length m) ≡ false → Q (leaving (withoutReply Unusable u) m r))
-        → (usable u (length m) ≡ true → isLink u link ≡ false → Q (leaving (withoutReply NoSuchLink u) m r))
-        → (usable u (length m) ≡ true → isLink u link ≡ true → (why : Refusal) → read ≡ Refused why
-        → Q (leaving (withoutReply (Unread why) (countedUnit (Unread why) u)) m r))
-        → (usable u (length m) ≡ true → isLink u link ≡ true → read ≡ Time → Q (leaving (takeTime ThrownAway u) m r))
-        → (usable u (length m) ≡ true → isLink u link ≡ true → read ≡ Time → (t : TheTime) → Q (leaving (takeTime (Taken t) u) m r))
-        → (usable u (length m) ≡ true → isLink u link ≡ true → (h : Header) → read ≡ Command h → Q (takeCommand u h path p end link m r))
-        → Q (takePacket u p end link m r)
+  module _ (lent : Lent) (Q : Outcome → Type 0) where
+    pub packet-is : (usable u (length (lent .memory)) ≡ false → Q (leaving (withoutReply Unusable u) lent))
+        → (usable u (length (lent .memory)) ≡ true → isLink u (p .link) ≡ false → Q (leaving (withoutReply NoSuchLink u) lent))
+        → (usable u (length (lent .memory)) ≡ true → isLink u (p .link) ≡ true → (why : Refusal) → read ≡ Refused why → Q (leaving (ended (Unread why)) lent))
+        → (usable u (length (lent .memory)) ≡ true → isLink u (p .link) ≡ true → read ≡ Time → Q (leaving (ended TimeThrownAway) lent))
+        → (usable u (length (lent .memory)) ≡ true → isLink u (p .link) ≡ true → read ≡ Time → (t : TheTime) → Q (leaving (timed t) lent))
+        → (usable u (length (lent .memory)) ≡ true → isLink u (p .link) ≡ true → (h : Header) → read ≡ Command h → Q (takeCommand u h path p lent))
+        → Q (takePacket u p lent)
     packet-is one two refused away taken command =
-        packets-are m m r refl (λ o o′. Q o) one two refused (λ e f g w. away e f g) (λ e f g t w. taken e f g t) command
+        packets-are lent (lent .memory) refl (λ o o′. Q o) one two refused (λ e f g w. away e f g) (λ e f g t w. taken e f g t) command
 
 -- ---- a small call: 1, or 0 and another unit
 
@@ -154,12 +183,12 @@ module _ (u : TheUnit) (h : Header) (path : Path) (p : List ℕ) (link from : �
 abbrev pub settled : Fate → TheUnit → List ℕ → List ℕ → ℕ → Outcome
 settled fate v m r n = record { answer = record { unit = countedUnit fate v; fate = fate; length = n }; memory = m; reply = r }
 
-module _ (u : TheUnit) (h : Header) (path : Path) (p : List ℕ) (end : End) (link : ℕ) where
-  abbrev from : ℕ
-  from = headerSize (h .instruction)
+module _ (u : TheUnit) (h : Header) (path : Path) (p : Arrived) where
+  abbrev first : Status
+  first = headerStatus u h path (p .link)
 
-  abbrev status : Status
-  status = dataStatus (drop from p) (wantedCount h) end
+  abbrev second : Status
+  second = dataStatusOf h p
 
   -- what an answer with status s is, where it leaves the unit v and the memory n, with d as data of a reply
   abbrev pub spoken : List ℕ → Status → TheUnit → List ℕ → List ℕ → Outcome
@@ -168,99 +197,110 @@ module _ (u : TheUnit) (h : Header) (path : Path) (p : List ℕ) (end : End) (li
   abbrev pub silent : List ℕ → Status → TheUnit → List ℕ → Outcome
   silent r s v n = settled (unansweredFate s) v n r 0
 
+  abbrev asked : Bool → Type 0
+  asked t = wantsReply (h .instruction) ≡ t
+
   -- on two memories
-  module _ (m n r : List ℕ) (R : Outcome → Outcome → Type 0) where
+  module _ (lent : Lent) (n : List ℕ) (R : Outcome → Outcome → Type 0) where
+    abbrev m : List ℕ
+    m = lent .memory
+
+    abbrev r : List ℕ
+    r = lent .reply
+
     abbrev pub BothAnswer : Status → TheUnit → List ℕ → List ℕ → List ℕ → List ℕ → Type 0
-    BothAnswer s v a b d e = (wantsReply (h .instruction) ≡ true → R (spoken r s v a d) (spoken r s v b e)) × (wantsReply (h .instruction) ≡ false → R (silent r s v a) (silent r s v b))
+    BothAnswer s v a b d e = (asked true → R (spoken r s v a d) (spoken r s v b e)) × (asked false → R (silent r s v a) (silent r s v b))
+
+    -- of an action: what it leaves of both memories, and its data
+    abbrev BothDo : Status → TheUnit → Action → Type 0
+    BothDo s v a = BothAnswer s v (stored a (p .packet) m) (stored a (p .packet) n) (dataFor a u (p .link) m) (dataFor a u (p .link) n)
+
+    abbrev NoRooms : Type 0
+    NoRooms = R (leaving (withoutReply NoRoom u) lent) (leaving (withoutReply NoRoom u) (withMemory lent n))
 
     abbrev acting : Plan → Type 0
-    acting plan = R (acted plan u h path p link m r) (acted plan u h path p link n r)
+    acting plan = R (acted plan u h path (p .packet) (p .link) lent) (acted plan u h path (p .packet) (p .link) (withMemory lent n))
 
-    planned-acts : (s : Status) (a : Action) → R (leaving (withoutReply NoRoom u) m r) (leaving (withoutReply NoRoom u) n r)
-        → BothAnswer s (changed a u (h .initiator) path link) (stored a p m) (stored a p n) (dataFor a u link m) (dataFor a u link n)
-        → acting (plannedFor h path s a (length r))
+    planned-acts : (s : Status) (a : Action) → NoRooms → BothDo s (changed a u (h .initiator) path (p .link)) a → acting (plannedFor h path s a (length r))
     unfolding repliedTo stored changed countedFor
     planned-acts s a none does =
         planned-is h path s a (length r) acting (λ w l. none) (λ w l. does .0 w) (λ w e. rw e at (does .1 w)) (λ w e. rw e at (does .1 w))
 
-    pub commands-are : R (leaving (withoutReply NoRoom u) m r) (leaving (withoutReply NoRoom u) n r)
-        → (isSuccess (headerStatus u h path link) ≡ false → BothAnswer (headerStatus u h path link) u m n [] [])
-        → (h .protocol ≡ 0x01 → isSuccess (headerStatus u h path link) ≡ true
-        → BothAnswer status u (stored (memoryAction h status from (length p - from)) p m) (stored (memoryAction h status from (length p - from)) p n)
-        (dataFor (memoryAction h status from (length p - from)) u link m) (dataFor (memoryAction h status from (length p - from)) u link n))
-        → ((h .protocol ≡ 0x01 → ⊥) → isSuccess (headerStatus u h path link) ≡ true
-        → BothAnswer status (changed (fieldAction h status p from) u (h .initiator) path link) m n
-        (dataFor (fieldAction h status p from) u link m) (dataFor (fieldAction h status p from) u link n))
-        → R (takeCommand u h path p end link m r) (takeCommand u h path p end link n r)
+    pub commands-are : NoRooms
+        → (isSuccess first ≡ false → BothAnswer first u m n [] [])
+        → (h .protocol ≡ 0x01 → isSuccess first ≡ true → BothDo second u (memoryActionIn h p))
+        → ((h .protocol ≡ 0x01 → ⊥) → isSuccess first ≡ true
+        → BothAnswer second (changed (fieldActionIn h p) u (h .initiator) path (p .link)) m n
+        (dataFor (fieldActionIn h p) u (p .link) m) (dataFor (fieldActionIn h p) u (p .link) n))
+        → R (takeCommand u h path p lent) (takeCommand u h path p (withMemory lent n))
     unfolding takeCommand changed stored dataFor
     commands-are none refused memory fields =
-        decided-is u h path p end link (length r) acting
-        (λ s. planned-acts (headerStatus u h path link) Nothing none (refused s))
-        (λ e s. planned-acts status (memoryAction h status from (length p - from)) none
-        (rw (memory-unit (kindIn h) h status from (length p - from) u path link) (memory e s)))
-        (λ e s. planned-acts status (fieldAction h status p from) none
-        (rw (fields-store-none (isSuccess status) (kindIn h) h p m from, fields-store-none (isSuccess status) (kindIn h) h p n from) (fields e s)))
+        decided-is u h path (allAtHand h p) (p .end) (p .link) (length r) acting
+        (λ s. planned-acts first Nothing none (refused s))
+        (λ e s. planned-acts second (memoryActionIn h p) none
+        (rw (memory-unit (kindIn h) h second (headerSize (h .instruction)) (dataCount h (allAtHand h p)) u path (p .link)) (memory e s)))
+        (λ e s. planned-acts second (fieldActionIn h p) none
+        (rw (
+          fields-store-none (isSuccess second) (kindIn h) h (p .packet) m (headerSize (h .instruction)),
+          fields-store-none (isSuccess second) (kindIn h) h (p .packet) n (headerSize (h .instruction)),
+        ) (fields e s)))
 
   -- and on one memory
-  module _ (m r : List ℕ) (Q : Outcome → Type 0) where
+  module _ (lent : Lent) (Q : Outcome → Type 0) where
     abbrev pub Answers : Status → TheUnit → List ℕ → List ℕ → Type 0
-    Answers s v n d = (wantsReply (h .instruction) ≡ true → Q (spoken r s v n d)) × (wantsReply (h .instruction) ≡ false → Q (silent r s v n))
+    Answers s v n d = (asked true → Q (spoken (lent .reply) s v n d)) × (asked false → Q (silent (lent .reply) s v n))
 
-    pub command-is : Q (leaving (withoutReply NoRoom u) m r)
-        → (isSuccess (headerStatus u h path link) ≡ false → Answers (headerStatus u h path link) u m [])
-        → (h .protocol ≡ 0x01 → isSuccess (headerStatus u h path link) ≡ true
-        → Answers status u (stored (memoryAction h status from (length p - from)) p m) (dataFor (memoryAction h status from (length p - from)) u link m))
-        → ((h .protocol ≡ 0x01 → ⊥) → isSuccess (headerStatus u h path link) ≡ true
-        → Answers status (changed (fieldAction h status p from) u (h .initiator) path link) m (dataFor (fieldAction h status p from) u link m))
-        → Q (takeCommand u h path p end link m r)
-    command-is = commands-are m m r (λ o o′. Q o)
+    pub command-is : Q (leaving (withoutReply NoRoom u) lent)
+        → (isSuccess first ≡ false → Answers first u (lent .memory) [])
+        → (h .protocol ≡ 0x01 → isSuccess first ≡ true
+        → Answers second u (stored (memoryActionIn h p) (p .packet) (lent .memory)) (dataFor (memoryActionIn h p) u (p .link) (lent .memory)))
+        → ((h .protocol ≡ 0x01 → ⊥) → isSuccess first ≡ true
+        → Answers second (changed (fieldActionIn h p) u (h .initiator) path (p .link)) (lent .memory) (dataFor (fieldActionIn h p) u (p .link) (lent .memory)))
+        → Q (takeCommand u h path p lent)
+    command-is = commands-are lent (lent .memory) (λ o o′. Q o)
 
 -- its fate: 3, 20, 17 with a status that is not 0, or 18
-pub command-fate : (u : TheUnit) (h : Header) (path : Path) (p : List ℕ) (end : End) (link : ℕ) (m r : List ℕ) (P : Fate → Type 0)
+pub command-fate : (u : TheUnit) (h : Header) (path : Path) (p : Arrived) (lent : Lent) (P : Fate → Type 0)
     → P NoRoom → ((s : Status) → P (Replied s)) → ((s : Status) → isSuccess s ≡ false → P (NotObeyed s)) → P Obeyed
-    → P (takeCommand u h path p end link m r .answer .fate)
-command-fate u h path p end link m r P three twenty seventeen eighteen =
-    command-is u h path p end link m r (λ o. P (o .answer .fate)) three (λ e. (λ w. twenty first, λ w. silent first (isSuccess first) refl))
-    (λ e a. (λ w. twenty second, λ w. silent second (isSuccess second) refl))
-    (λ e a. (λ w. twenty second, λ w. silent second (isSuccess second) refl))
+    → P (takeCommand u h path p lent .answer .fate)
+command-fate u h path p lent P three twenty seventeen eighteen =
+    command-is u h path p lent (λ o. P (o .answer .fate)) three (λ e. either (headerStatus u h path (p .link))) (λ e a. either (dataStatusOf h p))
+    (λ e a. either (dataStatusOf h p))
   where
-    first : Status
-    first = headerStatus u h path link
+    quiet : (s : Status) (t : Bool) → isSuccess s ≡ t → P (cond t Obeyed (NotObeyed s))
+    quiet s true e = eighteen
+    quiet s false e = seventeen s e
 
-    second : Status
-    second = dataStatus (drop (headerSize (h .instruction)) p) (wantedCount h) end
-
-    silent : (s : Status) (t : Bool) → isSuccess s ≡ t → P (cond t Obeyed (NotObeyed s))
-    silent s true e = eighteen
-    silent s false e = seventeen s e
+    either : {A B : Type 0} (s : Status) → (A → P (Replied s)) × (B → P (unansweredFate s))
+    either s = (λ w. twenty s, λ w. quiet s (isSuccess s) refl)
 
 -- ---- the unit after a packet: as it was, with the time of a time packet, or after a swap or a write to a field; and counted
 
-module _ (u : TheUnit) (p : List ℕ) (end : End) (link : ℕ) (m r : List ℕ) (Q : TheUnit → Type 0) (counted : (f : Fate) (v : TheUnit) → Q v → Q (countedUnit f v)) where
+module _ (u : TheUnit) (p : Arrived) (lent : Lent) (Q : TheUnit → Type 0) (counted : (f : Fate) (v : TheUnit) → Q v → Q (countedUnit f v)) where
+  abbrev path′ : Path
+  path′ = readPacket (p .packet) (u .number) .path
+
+  -- what holds where a command on fields is accepted
+  abbrev Changes : Header → Type 0
+  Changes h =
+      (kindIn h ≡ ReadModifyWrite → (new expected : ℕ) → Q (withOwner u (swapped (u .owner) new expected (h .initiator) path′ (p .link))))
+      × (kindIn h ≡ Write → (word : ℕ) → Q (withClock u (timeCodeWritten (u .clock) word)) × Q (withFields u (dividerWritten (u .fields) word)))
+
   pub unit-is : Q u
-      → (usable u (length m) ≡ true → (t : TheTime) → readTime p end (u .logical) (u .number) ≡ Taken t → Q (withClock u (afterTime (u .clock) t)))
-      → (usable u (length m) ≡ true → isLink u link ≡ true → (h : Header) → readPacket p (u .number) .reading ≡ Command h → (h .protocol ≡ 0x01 → ⊥)
-      → isSuccess (headerStatus u h (readPacket p (u .number) .path) link) ≡ true
-      → (kindIn h ≡ ReadModifyWrite → (new expected : ℕ) → Q (withOwner u (swapped (u .owner) new expected (h .initiator) (readPacket p (u .number) .path) link)))
-      × (kindIn h ≡ Write → (word : ℕ) → Q (withClock u (timeCodeWritten (u .clock) word)) × Q (withFields u (dividerWritten (u .fields) word))))
-      → Q (takePacket u p end link m r .answer .unit)
+      → (usable u (length (lent .memory)) ≡ true → (t : TheTime) → readTime (p .packet) (p .end) (u .logical) (u .number) ≡ Taken t → Q (withClock u (afterTime (u .clock) t)))
+      → (usable u (length (lent .memory)) ≡ true → isLink u (p .link) ≡ true → (h : Header) → readPacket (p .packet) (u .number) .reading ≡ Command h
+      → (h .protocol ≡ 0x01 → ⊥) → isSuccess (headerStatus u h path′ (p .link)) ≡ true → Changes h)
+      → Q (takePacket u p lent .answer .unit)
   unit-is same time fields =
-      packets-are u p end link m m r refl (λ o o′. Q (o .answer .unit)) (λ e. same) (λ e f. same) (λ e f why g. counted (Unread why) u same)
+      packets-are u p lent (lent .memory) refl (λ o o′. Q (o .answer .unit)) (λ e. same) (λ e f. same) (λ e f why g. counted (Unread why) u same)
       (λ e f g w. counted TimeThrownAway u same) (λ e f g t w. counted TimeTaken (withClock u (afterTime (u .clock) t)) (time e t w))
-      (λ e f h g. command-is u h path′ p end link m r (λ o. Q (o .answer .unit)) same (λ a. both (headerStatus u h path′ link) u same) (λ q a. both (second h) u same)
-      (λ q a. both (second h) (changed (fieldAction h (second h) p (headerSize (h .instruction))) u (h .initiator) path′ link) (after e f h g q a)))
+      (λ e f h g. command-is u h path′ p lent (λ o. Q (o .answer .unit)) same (λ a. both (headerStatus u h path′ (p .link)) u same) (λ q a. both (dataStatusOf h p) u same)
+      (λ q a. both (dataStatusOf h p) (changed (fieldActionIn h p) u (h .initiator) path′ (p .link)) (after h (fields e f h g q a))))
     where
-      path′ : Path
-      path′ = readPacket p (u .number) .path
-
-      second : Header → Status
-      second h = dataStatus (drop (headerSize (h .instruction)) p) (wantedCount h) end
-
       both : {A B : Type 0} (s : Status) (v : TheUnit) → Q v → (A → Q (countedUnit (Replied s) v)) × (B → Q (countedUnit (unansweredFate s) v))
       both s v x = (λ w. counted (Replied s) v x, λ w. counted (unansweredFate s) v x)
 
-      after : usable u (length m) ≡ true → isLink u link ≡ true → (h : Header) → readPacket p (u .number) .reading ≡ Command h → (h .protocol ≡ 0x01 → ⊥)
-          → isSuccess (headerStatus u h path′ link) ≡ true → Q (changed (fieldAction h (second h) p (headerSize (h .instruction))) u (h .initiator) path′ link)
-      after e f h g q a =
-          field-changes u h path′ p link (headerSize (h .instruction)) Q (isSuccess (second h)) (kindIn h) same
-          (λ new expected t k. fields e f h g q a .0 k new expected) (λ word t k. fields e f h g q a .1 k word)
+      after : (h : Header) → Changes h → Q (changed (fieldActionIn h p) u (h .initiator) path′ (p .link))
+      after h changes =
+          field-changes u h path′ (p .packet) (p .link) (headerSize (h .instruction)) Q (isSuccess (dataStatusOf h p)) (kindIn h) same
+          (λ new expected t k. changes .0 k new expected) (λ word t k. changes .1 k word)

@@ -5,31 +5,34 @@ use mathlib.Core.List.{List}
 use Prim.Native.Nat.{ℕ, _+_, _%_, _^_}
 use native.Mathlib.Decide.{ℕ-discrete}
 use lib.Dec.{eqb, ltb}
-use lib.ListN.{length, getD, set}
+use lib.ListN.{getD, set}
 use lib.Seq.{getD-set-other, set-comm}
 use Rattle.packets.specs.Reading.{readPacket}
 use Rattle.packets.specs.Reply.{replied}
-use Rattle.packets.specs.Time.{readTime}
 use Rattle.packets.specs.declared.header.Header.{Header}
 use Rattle.packets.specs.declared.path.Path.{Path}
-use Rattle.packets.specs.declared.reading.End.{End}
 use Rattle.packets.specs.declared.reading.Reading.{Reading}
 use Rattle.packets.specs.declared.reading.Reading.the-variants.{Refused, Time, Command}
-use Rattle.packets.specs.declared.time.TimeReading.{TimeReading}
-use Rattle.packets.specs.declared.time.TimeReading.the-variants.{ThrownAway, Taken}
 use Rattle.unit.specs.Fate.{byteOf, fateNumber}
 use Rattle.unit.specs.Counters.{bumpedAt, counterOf, total, countedFor}
 use Rattle.unit.specs.Clock.{timeCodeWritten}
 use Rattle.unit.specs.Fields.{rowOf, timeCodeCounter, divider, dividerWritten}
 use Rattle.unit.specs.Usable.{usable, usableUnit}
+use Rattle.unit.specs.Given.{Arrived, Lent, sizesOf}
 use Rattle.unit.specs.Decide.{headerStatus}
-use Rattle.unit.specs.Plan.{decided}
+use Rattle.unit.specs.Plan.{decidedOn}
+use Rattle.unit.specs.Judge.{rulingOn, outright, isLink, judged}
 use Rattle.unit.specs.Act.{stored, dataFor, repliedTo, fieldWritten, changed, withClock, withFields, withCounters, countedUnit}
-use Rattle.unit.specs.Calls.{Outcome, withoutReply, leaving, takeTime, takeCommand, takeReading, isLink, takePacket}
+use Rattle.unit.specs.Calls.{Outcome, acted, doneBy, done, takePacket}
 use Rattle.unit.specs.declared.fate.Fate.{Fate}
 use Rattle.unit.specs.declared.fate.Fate.the-variants.{Unusable, NoSuchLink}
 use Rattle.unit.specs.declared.decide.Action.{Action}
 use Rattle.unit.specs.declared.decide.Action.the-variants.{Nothing, ReadMemory, RepeatByte, Store, StoreLast, Combine, ReadFields, Swap, WriteField}
+use Rattle.unit.specs.declared.decide.Plan.{Plan}
+use Rattle.unit.specs.declared.judging.Sizes.{Sizes}
+use Rattle.unit.specs.declared.judging.Ruling.{Ruling}
+use Rattle.unit.specs.declared.judging.Ruling.the-variants.{Ends, SetsTime, Planned}
+use Rattle.unit.specs.declared.judging.Judgement.{Judgement}
 use Rattle.unit.specs.declared.unit.Unit.{Unit as TheUnit}
 
 -- ---- with other counters all is the same, but for the counters, which then are those, counted
@@ -83,39 +86,45 @@ module _ (u : TheUnit) (c : List ℕ) where
   changed-aside (Swap new expected) initiator path link = refl
   changed-aside (WriteField address word) initiator path link = written-aside address word
 
-  time-aside : (t : TimeReading) (m r : List ℕ) → leaving (takeTime t (withCounters u c)) m r ≡ recounted c (leaving (takeTime t u) m r)
-  time-aside ThrownAway m r = refl
-  time-aside (Taken t) m r = refl
+  -- it is not judged by
+  ruling-aside : (q : Reading) (path : Path) (p : Arrived) (sizes : Sizes) → rulingOn q path (withCounters u c) p sizes ≡ rulingOn q path u p sizes
+  unfolding decidedOn headerStatus
+  ruling-aside (Refused why) path p sizes = refl
+  ruling-aside Time path p sizes = refl
+  ruling-aside (Command h) path p sizes = refl
 
-  module _ (p : List ℕ) (end : End) (link : ℕ) (m r : List ℕ) where
-    command-aside : (h : Header) (path : Path) → takeCommand (withCounters u c) h path p end link m r ≡ recounted c (takeCommand u h path p end link m r)
-    unfolding takeCommand decided headerStatus repliedTo
-    command-aside h path =
-        let plan = decided u h path p end link (length r) in
+  pub judged-aside : (p : Arrived) (sizes : Sizes) → judged (withCounters u c) p sizes ≡ judged u p sizes
+  unfolding judged usable usableUnit
+  judged-aside p sizes =
+      let read = readPacket (p .packet) (u .number) in
+      ap (λ (r : Ruling). cond (not (usable u (sizes .memory))) (outright Unusable)
+      (cond (not (isLink u (p .link))) (outright NoSuchLink) (record { ruling = r; path = read .path })))
+      (ruling-aside (read .reading) (read .path) p sizes)
+
+  module _ (bytes : List ℕ) (link : ℕ) (lent : Lent) where
+    plan-aside : (plan : Plan) (h : Header) (path : Path)
+        → acted plan (withCounters u c) h path bytes link lent ≡ recounted c (acted plan u h path bytes link lent)
+    unfolding repliedTo
+    plan-aside plan h path =
         let unit = changed-aside (plan .action) (h .initiator) path link in
-        let d = data-aside (plan .action) link m in
+        let d = data-aside (plan .action) link (lent .memory) in
         λ i. record {
           answer = record { unit = countedUnit (plan .fate) (unit i); fate = plan .fate; length = plan .length };
-          memory = stored (plan .action) p m;
-          reply = cond (eqb (fateNumber (plan .fate)) 20) (replied path h (byteOf (plan .status)) (d i) r) r;
+          memory = stored (plan .action) bytes (lent .memory);
+          reply = cond (eqb (fateNumber (plan .fate)) 20) (replied path h (byteOf (plan .status)) (d i) (lent .reply)) (lent .reply);
         }
 
-    reading-aside : (read : Reading) (path : Path) → takeReading read (withCounters u c) path p end link m r ≡ recounted c (takeReading read u path p end link m r)
-    reading-aside (Refused why) path = refl
-    reading-aside Time path = time-aside (readTime p end (u .logical) (u .number)) m r
-    reading-aside (Command h) path = command-aside h path
+    done-aside : (ruling : Ruling) (path : Path) → doneBy ruling path (withCounters u c) bytes link lent ≡ recounted c (doneBy ruling path u bytes link lent)
+    done-aside (Ends fate) path = refl
+    done-aside (SetsTime t) path = refl
+    done-aside (Planned h plan) path = plan-aside plan h path
 
-    pub counters-aside : takePacket (withCounters u c) p end link m r ≡ recounted c (takePacket u p end link m r)
-    unfolding takePacket usable usableUnit countedFor
-    counters-aside =
-        go (usable u (length m)) (isLink u link) _ _ (reading-aside (readPacket p (u .number) .reading) (readPacket p (u .number) .path))
-      where
-        go : (t s : Bool) (a b : Outcome) → a ≡ recounted c b
-            → cond (not t) (leaving (withoutReply Unusable (withCounters u c)) m r) (cond (not s) (leaving (withoutReply NoSuchLink (withCounters u c)) m r) a)
-            ≡ recounted c (cond (not t) (leaving (withoutReply Unusable u) m r) (cond (not s) (leaving (withoutReply NoSuchLink u) m r) b))
-        go false s a b e = refl
-        go true false a b e = refl
-        go true true a b e = e
+  pub counters-aside : (p : Arrived) (lent : Lent) → takePacket (withCounters u c) p lent ≡ recounted c (takePacket u p lent)
+  unfolding takePacket
+  counters-aside p lent =
+      let j = judged u p (sizesOf lent) in
+      ap (λ (k : Judgement). done k (withCounters u c) (p .packet) (p .link) lent) (judged-aside p (sizesOf lent))
+      ∙ done-aside (p .packet) (p .link) lent (j .ruling) (j .path)
 
 -- ---- counting goes in any order
 

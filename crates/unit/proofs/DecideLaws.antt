@@ -2,17 +2,20 @@
 use mathlib.Core.Path.{_≡_, refl, sym, _∙_, ap}
 use mathlib.Core.Bool.{Bool, true, false, cond, not, _&&_, _||_, false≢true}
 use mathlib.Core.List.{List, [], _∷_}
-use Prim.Native.Nat.{ℕ, _+_, _-_, _/_, _%_, _^_, _≤_}
+use Prim.Native.Nat.{ℕ, _+_, _-_, _/_, _%_, _^_, _≤_, min}
 use native.Mathlib.Omega.{arith}
-use borrow.Author.Tests.{leb-true, leb-false, ltb-false, eqb-true, eq-eqb, ne-eqb, not-false}
+use borrow.Author.Tests.{lt-ltb, leb-true, leb-false, ltb-false, eqb-true, eq-eqb, ne-eqb, not-false}
 use lib.Dec.{eqb, leb, ltb}
 use lib.ListN.{length, drop, length-drop}
+use lib.Arith.{lt-of-le-ne}
 use lib.Seq.{take-all}
-use native.Mathlib.Nat.{le-of-eq}
+use native.Mathlib.Nat.{le-of-eq, lt-of-not-le}
+use native.Mathlib.Decide.{decLe}
 use Rattle.octets.specs.Places.{part}
 use Rattle.octets.specs.Crc.{crc}
-use Rattle.octets.proofs.PlaceLaws.{first-true, second-true}
-use Rattle.packets.specs.Instruction.{typeOf, codeOf, kindOf, isWrite, isVerified, headerSize}
+use Rattle.octets.proofs.PlaceLaws.{length-part, first-true, second-true}
+use Rattle.packets.specs.Instruction.{typeOf, codeOf, kindOf, isWrite, isVerified, isUnused, isRead, isRmw, headerSize}
+use Rattle.packets.specs.Header.{kindIn}
 use Rattle.packets.specs.Reading.{isEop}
 use Rattle.packets.specs.declared.instruction.Kind.{Kind}
 use Rattle.packets.specs.declared.instruction.Kind.the-variants.{Unused, Read, ReadModifyWrite, Write}
@@ -21,11 +24,12 @@ use Rattle.packets.specs.declared.path.Path.{Path}
 use Rattle.packets.specs.declared.reading.End.{End}
 use Rattle.unit.specs.Some.{some}
 use Rattle.unit.specs.Fate.{byteOf, isSuccess, orElse}
+use Rattle.unit.specs.Given.{Arrived}
 use Rattle.unit.specs.Fields.{fieldOf, named, isMissing, rightOf, offenceOf, writeOffence, swapOffence}
-use Rattle.unit.specs.Decide.{kindIn, isUnused, isRmw, isRead, openingStatus, isAuthorised, spanStatus, isFieldLength, fieldCount, namesFields, offenceIn, isAllowed, fieldsStatus}
-use Rattle.unit.specs.Decide.{headerStatus, wantedCount, dataStatus}
+use Rattle.unit.specs.Decide.{openingStatus, isAuthorised, spanStatus, isFieldLength, fieldCount, namesFields, offenceIn, isAllowed, fieldsStatus}
+use Rattle.unit.specs.Decide.{headerStatus, wantedCount, dataStatus, AtHand, dataCount, dataStatusOn, dataStatusOf}
 use Rattle.unit.specs.Granted.{WordsThere}
-use Rattle.unit.specs.Plan.{memoryAction, fieldAction, plannedFor, decidedByData, decided}
+use Rattle.unit.specs.Plan.{memoryAction, fieldAction, plannedFor, decidedByData, decidedOn, decided}
 use Rattle.unit.specs.declared.decide.Action.{Action}
 use Rattle.unit.specs.declared.decide.Plan.{Plan}
 use Rattle.unit.specs.declared.fate.Status.{Status}
@@ -222,82 +226,110 @@ header-gives u h path link = go (eqb (h .protocol) 0x01)
 
 -- ---- what the data decide
 
-pub data-passed : (bytes : List ℕ) (wanted : ℕ) (end : End) → isSuccess (dataStatus bytes wanted end) ≡ true
-    → (isEop end ≡ true) × (length bytes ≡ wanted) × (crc bytes ≡ 0)
+pub data-passed : (count sum wanted : ℕ) (end : End) → isSuccess (dataStatus count sum wanted end) ≡ true
+    → (isEop end ≡ true) × (count ≡ wanted) × (sum ≡ 0)
 unfolding dataStatus
-data-passed bytes wanted end s =
-    let last = cond (not (eqb (crc bytes) 0)) DataCrc Success in
-    let more = cond (ltb wanted (length bytes)) TooMuchData last in
-    let one = passed (not (isEop end)) EndedByEep (cond (ltb (length bytes) wanted) EarlyEop more) refl s in
-    let two = passed (ltb (length bytes) wanted) EarlyEop more refl (one .1) in
-    let three = passed (ltb wanted (length bytes)) TooMuchData last refl (two .1) in
-    let four = passed (not (eqb (crc bytes) 0)) DataCrc Success refl (three .1) in
-    let a = ltb-false (length bytes) wanted (two .0) in
-    let b = ltb-false wanted (length bytes) (three .0) in
-    (not-false (isEop end) (one .0), omega (arith, a, b), eqb-true (crc bytes) 0 (not-false (eqb (crc bytes) 0) (four .0)))
+data-passed count sum wanted end s =
+    let last = cond (not (eqb sum 0)) DataCrc Success in
+    let more = cond (ltb wanted count) TooMuchData last in
+    let one = passed (not (isEop end)) EndedByEep (cond (ltb count wanted) EarlyEop more) refl s in
+    let two = passed (ltb count wanted) EarlyEop more refl (one .1) in
+    let three = passed (ltb wanted count) TooMuchData last refl (two .1) in
+    let four = passed (not (eqb sum 0)) DataCrc Success refl (three .1) in
+    let a = ltb-false count wanted (two .0) in
+    let b = ltb-false wanted count (three .0) in
+    (not-false (isEop end) (one .0), omega (arith, a, b), eqb-true sum 0 (not-false (eqb sum 0) (four .0)))
 
 -- they give 0, 4, 5, 6 or 7
-pub data-refuses : (bytes : List ℕ) (wanted : ℕ) (end : End) → isSuccess (dataStatus bytes wanted end) ≡ false
-    → some (eqb (byteOf (dataStatus bytes wanted end))) (4 ∷ 5 ∷ 6 ∷ 7 ∷ []) ≡ true
+pub data-is : (P : Status → Type 0) (count sum wanted : ℕ) (end : End) → P EndedByEep → P EarlyEop → P TooMuchData → P DataCrc → P Success
+    → P (dataStatus count sum wanted end)
 unfolding dataStatus
-data-refuses bytes wanted end =
-    go (isEop end) (ltb (length bytes) wanted) (ltb wanted (length bytes)) (eqb (crc bytes) 0)
+data-is P count sum wanted end seven five six four zero = go (isEop end) (ltb count wanted) (ltb wanted count) (eqb sum 0)
   where
-    given : Bool → Bool → Bool → Bool → Status
-    given a b c d = cond (not a) EndedByEep (cond b EarlyEop (cond c TooMuchData (cond (not d) DataCrc Success)))
+    go : (a b c d : Bool) → P (cond (not a) EndedByEep (cond b EarlyEop (cond c TooMuchData (cond (not d) DataCrc Success))))
+    go false b c d = seven
+    go true true c d = five
+    go true false true d = six
+    go true false false false = four
+    go true false false true = zero
 
-    go : (a b c d : Bool) → isSuccess (given a b c d) ≡ false → some (eqb (byteOf (given a b c d))) (4 ∷ 5 ∷ 6 ∷ 7 ∷ []) ≡ true
-    go false b c d e = refl
-    go true true c d e = refl
-    go true false true d e = refl
-    go true false false false e = refl
-    go true false false true e = absurd (false≢true (sym e))
+pub data-refuses : (count sum wanted : ℕ) (end : End) → isSuccess (dataStatus count sum wanted end) ≡ false
+    → some (eqb (byteOf (dataStatus count sum wanted end))) (4 ∷ 5 ∷ 6 ∷ 7 ∷ []) ≡ true
+data-refuses count sum wanted end =
+    data-is (λ s. isSuccess s ≡ false → some (eqb (byteOf s)) (4 ∷ 5 ∷ 6 ∷ 7 ∷ []) ≡ true) count sum wanted end (λ e. refl) (λ e. refl) (λ e. refl) (λ e. refl)
+    (λ e. absurd (false≢true (sym e)))
 
--- the words of a swap and of a write to a field are there
-pub words-there : (h : Header) (p : List ℕ) (from : ℕ) (end : End) → from ≤ length p → namesFields h ≡ true
-    → isSuccess (dataStatus (drop from p) (wantedCount h) end) ≡ true → WordsThere (kindIn h) from (length p)
+-- where another number came than is wanted, the CRC does not bear on it
+pub data-elsewhere : (count a b wanted : ℕ) (end : End) → (count ≡ wanted → ⊥) → dataStatus count a wanted end ≡ dataStatus count b wanted end
+unfolding dataStatus
+data-elsewhere count a b wanted end other = go (decLe wanted count)
+  where
+    go : Dec (wanted ≤ count) → dataStatus count a wanted end ≡ dataStatus count b wanted end
+    go (yes h) = rw (lt-ltb wanted count (lt-of-le-ne h (λ e. other (sym e))))
+    go (no h) = rw (lt-ltb count wanted (lt-of-not-le h))
+
+-- the words of a swap and of a write to a field are there, where all that came is at hand, or 1,024 bytes of it behind the header
+pub words-there : (h : Header) (hand : AtHand) (end : End) (n : ℕ) → headerSize (h .instruction) ≤ hand .came
+    → min (hand .came) (headerSize (h .instruction) + 1024) ≤ n → namesFields h ≡ true
+    → isSuccess (dataStatusOn h hand end) ≡ true → WordsThere (kindIn h) (headerSize (h .instruction)) n
 unfolding wantedCount
-words-there h p from end whole f s =
-    let n : length (drop from p) ≡ wantedCount h = data-passed (drop from p) (wantedCount h) end s .1 in
-    let l = length-drop from p in
-    go (kindIn h) (names-length h f) (sym l ∙ n)
+words-there h hand end n there near f s =
+    go (kindIn h) (names-length h f) (data-passed (dataCount h hand) (hand .dataCrc) (wantedCount h) end s .1)
   where
-    go : (kind : Kind) → isFieldLength kind (h .length) ≡ true → length p - from ≡ cond (isRead kind) 0 (h .length + 1) → WordsThere kind from (length p)
+    from : ℕ
+    from = headerSize (h .instruction)
+
+    go : (kind : Kind) → isFieldLength kind (h .length) ≡ true → hand .came - from ≡ cond (isRead kind) 0 (h .length + 1) → WordsThere kind from n
     go Unused e m = tt
     go Read e m = tt
-    go ReadModifyWrite e m = let l = eqb-true (h .length) 8 e in omega (arith, whole, l, m)
+    go ReadModifyWrite e m = let l = eqb-true (h .length) 8 e in omega (arith, there, near, l, m)
     go Write e m =
-        let l = leb-true 4 (h .length)
-        (second-true (eqb (h .length % 4) 0) (leb 4 (h .length)) (first-true (eqb (h .length % 4) 0 && leb 4 (h .length)) (leb (h .length) 64) e)) in
-        omega (arith, whole, l, m)
+        let four = first-true (eqb (h .length % 4) 0 && leb 4 (h .length)) (leb (h .length) 64) e in
+        let l = leb-true 4 (h .length) (second-true (eqb (h .length % 4) 0) (leb 4 (h .length)) four) in
+        let k = leb-true (h .length) 64 (second-true (eqb (h .length % 4) 0 && leb 4 (h .length)) (leb (h .length) 64) e) in
+        omega (arith, there, near, l, k, m)
 
 -- ---- both halves, from the pieces that the code works out
 
+-- by the data: the status, and the plan for an action of either kind
+module _ (h : Header) (path : Path) (hand : AtHand) (end : End) (room : ℕ) {status : Status} {from wanted : ℕ}
+    (size : from ≡ headerSize (h .instruction)) (wants : wanted ≡ wantedCount h) (given : status ≡ dataStatus (hand .came - from) (hand .dataCrc) wanted end) where
+  pub by-data : status ≡ dataStatusOn h hand end
+  by-data = given ∙ rw (size, wants)
+
+  pub data-memory : {action : Action} {plan : Plan} → h .protocol ≡ 0x01 → action ≡ memoryAction h status from (hand .came - from)
+      → plan ≡ plannedFor h path status action room → plan ≡ decidedByData h path hand (dataStatusOn h hand end) room
+  unfolding decidedByData
+  data-memory e a q = q ∙ rw (a, by-data, size, eq-eqb (h .protocol) 0x01 e)
+
+  pub data-field : {action : Action} {plan : Plan} → (h .protocol ≡ 0x01 → ⊥) → action ≡ fieldAction h status (hand .bytes) from
+      → plan ≡ plannedFor h path status action room → plan ≡ decidedByData h path hand (dataStatusOn h hand end) room
+  unfolding decidedByData
+  data-field e a q = q ∙ rw (a, by-data, size, ne-eqb (h .protocol) 0x01 e)
+
 -- a part up to the end
-rest-of : (p : List ℕ) (from : ℕ) → part from (length p - from) p ≡ drop from p
+pub rest-of : (p : List ℕ) (from : ℕ) → part from (length p - from) p ≡ drop from p
 rest-of p from = take-all (length p - from) (drop from p) (le-of-eq (length-drop from p))
 
-module _ (u : TheUnit) (h : Header) (path : Path) (p : List ℕ) (end : End) (link room : ℕ) {first second : Status} {from wanted : ℕ}
-    (header : first ≡ headerStatus u h path link) (accepted : isSuccess first ≡ true) (size : from ≡ headerSize (h .instruction))
-    (wants : wanted ≡ wantedCount h) (status : second ≡ dataStatus (part from (length p - from) p) wanted end) where
-  by-data : second ≡ dataStatus (drop (headerSize (h .instruction)) p) (wantedCount h) end
-  by-data = status ∙ ap (λ (b : List ℕ). dataStatus b wanted end) (rest-of p from) ∙ rw (size, wants)
+-- a packet that is all at hand, and whose header is accepted: its data CRC, or a number that gives the same status
+module _ (u : TheUnit) (h : Header) (path : Path) (p : Arrived) {first : Status} (header : first ≡ headerStatus u h path (p .link)) (accepted : isSuccess first ≡ true) where
+  abbrev behind : ℕ → List ℕ
+  behind from = part from (length (p .packet) - from) (p .packet)
 
-  both : decidedByData h path p second room ≡ decided u h path p end link room
-  unfolding decided
-  both = rw (← header, accepted, ← by-data)
+  abbrev with-crc : ℕ → AtHand
+  with-crc c = record { bytes = p .packet; came = length (p .packet); dataCrc = c }
 
-  pub decided-memory : {action : Action} {plan : Plan} → h .protocol ≡ 0x01 → action ≡ memoryAction h second from (length p - from)
-      → plan ≡ plannedFor h path second action room → plan ≡ decided u h path p end link room
-  unfolding decidedByData
-  decided-memory e a q = q ∙ rw (a, size) (rw (eq-eqb (h .protocol) 0x01 e) at both)
+  pub decided-data : (room c : ℕ) {from wanted : ℕ} {plan : Plan} → from ≡ headerSize (h .instruction) → from ≤ length (p .packet) → wanted ≡ wantedCount h
+      → dataStatus (length (behind from)) c wanted (p .end) ≡ dataStatus (length (behind from)) (crc (behind from)) wanted (p .end)
+      → plan ≡ decidedByData h path (with-crc c) (dataStatusOn h (with-crc c) (p .end)) room → plan ≡ decided u h path p room
+  unfolding decidedOn decidedByData
+  decided-data room c {from} {wanted} size there wants same q =
+      let long : length (behind from) ≡ length (p .packet) - from = length-part from (length (p .packet) - from) (p .packet) (omega (arith, there)) in
+      let status : dataStatusOn h (with-crc c) (p .end) ≡ dataStatusOf h p = rw (size, wants) at (rw (long, rest-of (p .packet) from) at same) in
+      q ∙ rw (status, ← header, accepted)
 
-  pub decided-field : {action : Action} {plan : Plan} → (h .protocol ≡ 0x01 → ⊥) → action ≡ fieldAction h second p from
-      → plan ≡ plannedFor h path second action room → plan ≡ decided u h path p end link room
-  unfolding decidedByData
-  decided-field e a q = q ∙ rw (a, size) (rw (ne-eqb (h .protocol) 0x01 e) at both)
-
-  pub decided-words : (h .protocol ≡ 0x01 → ⊥) → from ≤ length p → isSuccess second ≡ true → WordsThere (kindIn h) from (length p)
-  decided-words e whole s =
-      words-there h p from end whole (named-passed (u .owner) h path link (fields-passed u h path link e (rw header at accepted)) .0)
-      (rw (by-data, ← size) at s)
+  pub decided-words : (c : ℕ) → headerSize (h .instruction) ≤ length (p .packet) → (h .protocol ≡ 0x01 → ⊥)
+      → isSuccess (dataStatusOn h (with-crc c) (p .end)) ≡ true → WordsThere (kindIn h) (headerSize (h .instruction)) (length (p .packet))
+  decided-words c there e s =
+      words-there h (with-crc c) (p .end) (length (p .packet)) there (omega arith)
+      (named-passed (u .owner) h path (p .link) (fields-passed u h path (p .link) e (rw header at accepted)) .0) s

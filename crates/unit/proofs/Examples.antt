@@ -20,9 +20,10 @@ use Rattle.unit.specs.Owner.{swapped}
 use Rattle.unit.specs.Fields.{above, aboveField, fieldOf, rowOf, valuesOf, linkInformation, dividerWritten}
 use Rattle.unit.specs.Usable.{usableUnit, usable}
 use Rattle.unit.specs.Decide.{openingStatus, spanSize, isAuthorised, spanStatus, namesFields, fieldsStatus, headerStatus, wantedCount, dataStatus}
-use Rattle.unit.specs.Plan.{replyCount, plannedFor, decidedByData, decided}
+use Rattle.unit.specs.Plan.{replyCount, plannedFor, decidedByData, decidedOn}
+use Rattle.unit.specs.Judge.{judged}
 use Rattle.unit.specs.Act.{combineByte, stored, dataFor, repliedTo, fieldWritten, changed}
-use Rattle.unit.specs.Calls.{Outcome, takeCommand, takePacket}
+use Rattle.unit.specs.Calls.{Outcome, takePacket}
 use Rattle.unit.specs.declared.fate.Status.the-variants.{Success, UnusedCode, WrongKey, DataCrc, EarlyEop, TooMuchData, EndedByEep, VerifyOverrun}
 use Rattle.unit.specs.declared.fate.Status.the-variants.{NotAuthorised, RmwLength, WrongAddress, NotOwner, NoSuchField, ReadOnlyField, PlainDeviceId}
 use Rattle.unit.specs.declared.fate.Fate.{Fate}
@@ -142,7 +143,7 @@ shown o = (o .answer .fate, o .memory, take (o .answer .length) (o .reply), o .a
 
 -- a packet with its end, on a link, with a reply buffer of some length
 abbrev to : TheUnit → List ℕ → End → ℕ → ℕ → Fate × List ℕ × List ℕ × Owner
-to u p end link room = shown (takePacket u p end link bytes (replicate room 0xEE))
+to u p end link room = shown (takePacket u (record { packet = p; end = end; link = link }) (record { memory = bytes; reply = replicate room 0xEE }))
 
 -- RMAP commands
 memory-commands :
@@ -253,7 +254,7 @@ memory-commands :
           ∷ [],
       bench .owner,
     ))
-unfolding takePacket takeCommand decided decidedByData plannedFor headerStatus openingStatus spanStatus spanSize isAuthorised fieldsStatus namesFields rowOf wantedCount dataStatus replyCount stored dataFor repliedTo changed swapped fieldWritten countedFor usable usableUnit valuesOf linkInformation dividerWritten readPacket readProtocol readCommand kindOf withoutLeadingZeros orOneZero pathOf samePath replyLength replied replyWith crc mirrored bits remainder message modulo
+unfolding takePacket judged decidedOn decidedByData plannedFor headerStatus openingStatus spanStatus spanSize isAuthorised fieldsStatus namesFields rowOf wantedCount dataStatus replyCount stored dataFor repliedTo changed swapped fieldWritten countedFor usable usableUnit valuesOf linkInformation dividerWritten readPacket readProtocol readCommand kindOf withoutLeadingZeros orOneZero pathOf samePath replyLength replied replyWith crc mirrored bits remainder message modulo
 memory-commands = (refl, refl, refl, refl, refl, refl, refl, refl, refl, refl, refl, refl, refl, refl, refl, refl, refl)
 
 -- plug-and-play commands
@@ -329,5 +330,5 @@ field-commands :
           ∷ [],
       owned .owner,
     ))
-unfolding takePacket takeCommand decided decidedByData plannedFor headerStatus openingStatus spanStatus spanSize isAuthorised fieldsStatus namesFields rowOf wantedCount dataStatus replyCount stored dataFor repliedTo changed swapped fieldWritten countedFor usable usableUnit valuesOf linkInformation dividerWritten readPacket readProtocol readCommand kindOf withoutLeadingZeros orOneZero pathOf samePath replyLength replied replyWith crc mirrored bits remainder message modulo
+unfolding takePacket judged decidedOn decidedByData plannedFor headerStatus openingStatus spanStatus spanSize isAuthorised fieldsStatus namesFields rowOf wantedCount dataStatus replyCount stored dataFor repliedTo changed swapped fieldWritten countedFor usable usableUnit valuesOf linkInformation dividerWritten readPacket readProtocol readCommand kindOf withoutLeadingZeros orOneZero pathOf samePath replyLength replied replyWith crc mirrored bits remainder message modulo
 field-commands = (refl, refl, refl, refl, refl, refl, refl, refl, refl, refl, refl)

@@ -21,7 +21,8 @@ use Rattle.packets.specs.declared.instruction.Kind.{Kind}
 use Rattle.packets.specs.declared.instruction.Kind.the-variants.{Unused, Read, ReadModifyWrite, Write}
 use Rattle.unit.specs.Fate.{isSuccess, orElse}
 use Rattle.unit.specs.Fields.{aboveField, fieldOf, named, deviceId, timeCodeCounter, divider, missing, rowOf, rowRight, rightOf, offenceOf, writeOffence, swapOffence, fieldBytes}
-use Rattle.unit.specs.Decide.{kindIn, fieldCount, isFieldLength, namesFields}
+use Rattle.packets.specs.Header.{kindIn}
+use Rattle.unit.specs.Decide.{fieldCount, isFieldLength, namesFields}
 use Rattle.unit.specs.declared.fate.Status.{Status}
 use Rattle.unit.specs.declared.fate.Status.the-variants.{Success}
 use Rattle.unit.specs.declared.fields.Right.the-variants.{Missing, ReadOnly, Swapped, Written}

@@ -2,26 +2,39 @@
 use mathlib.Core.Path.{_≡_, refl, sym, _∙_}
 use mathlib.Core.Bool.{Bool, true, false, cond, not, _&&_, false≢true}
 use mathlib.Core.List.{List, [], _∷_}
-use Prim.Native.Nat.{ℕ, _+_, _-_, _/_, _%_, _^_, _≤_, min}
+use Prim.Native.Nat.{ℕ, _+_, _/_, _%_, _^_, _≤_, min}
 use native.Mathlib.Omega.{arith}
 use borrow.Author.Tests.{leb-true, ltb-false, eqb-true, not-true}
 use lib.Dec.{eqb, leb}
-use lib.ListN.{length, drop, length-drop}
+use lib.ListN.{length}
 use Rattle.octets.proofs.PlaceLaws.{first-true, second-true}
-use Rattle.packets.specs.Instruction.{isIncrementing, headerSize}
+use Rattle.packets.specs.Instruction.{isIncrementing, isRead, isRmw, headerSize}
+use Rattle.packets.specs.Header.{kindIn}
 use Rattle.packets.specs.declared.instruction.Kind.{Kind}
 use Rattle.packets.specs.declared.instruction.Kind.the-variants.{Unused, Read, ReadModifyWrite, Write}
 use Rattle.packets.specs.declared.header.Header.{Header}
+use Rattle.packets.specs.Reading.{readPacket}
+use Rattle.packets.specs.Time.{readTime}
 use Rattle.packets.specs.declared.path.Path.{Path}
-use Rattle.packets.specs.declared.reading.End.{End}
+use Rattle.packets.specs.declared.reading.Packet.{Packet}
+use Rattle.packets.specs.declared.reading.Reading.{Reading}
+use Rattle.packets.specs.declared.reading.Reading.the-variants.{Refused, Time, Command}
+use Rattle.packets.specs.declared.time.TimeReading.{TimeReading}
+use Rattle.packets.specs.declared.time.TimeReading.the-variants.{ThrownAway, Taken}
+use Rattle.packets.proofs.ReadingLaws.{header-whole}
 use Rattle.unit.specs.Some.{some}
 use Rattle.unit.specs.Fate.{isSuccess}
 use Rattle.unit.specs.Windows.{holds, hasRight, meets, used}
 use Rattle.unit.specs.Fields.{fieldOf}
 use Rattle.unit.specs.Usable.{usableUnit, usable}
-use Rattle.unit.specs.Decide.{kindIn, isRmw, isRead, spanSize, isAuthorised, fieldCount, isFieldLength, headerStatus, wantedCount, dataStatus}
-use Rattle.unit.specs.Plan.{actionOf, memoryAction, fieldActionOf, fieldAction, decided}
-use Rattle.unit.specs.Granted.{Granted}
+use Rattle.unit.specs.Given.{Arrived}
+use Rattle.unit.specs.Decide.{spanSize, isAuthorised, fieldCount, isFieldLength, headerStatus, wantedCount, allAtHand, dataCount, dataStatusOf}
+use Rattle.unit.specs.Plan.{actionOf, fieldActionOf, decided}
+use Rattle.unit.specs.Judge.{timeRuling, rulingOn, outright, judgedAs, isLink, judged}
+use Rattle.unit.specs.Granted.{Granted, GrantedBy}
+use Rattle.unit.specs.declared.fate.Fate.the-variants.{Unusable, NoSuchLink}
+use Rattle.unit.specs.declared.judging.Sizes.{Sizes}
+use Rattle.unit.specs.declared.judging.Ruling.{Ruling}
 use Rattle.unit.specs.declared.fate.Status.{Status}
 use Rattle.unit.specs.declared.windows.Window.{Window}
 use Rattle.unit.specs.declared.windows.Windows.{Windows}
@@ -29,7 +42,7 @@ use Rattle.unit.specs.declared.windows.Question.the-variants.{EndsPast, 
 use Rattle.unit.specs.declared.decide.Action.the-variants.{Nothing}
 use Rattle.unit.specs.declared.unit.Unit.{Unit as TheUnit}
 use Rattle.unit.proofs.FieldLaws.{named-last}
-use Rattle.unit.proofs.PlanLaws.{action-is, decided-has}
+use Rattle.unit.proofs.PlanLaws.{action-is, memoryActionIn, fieldActionIn, decided-has}
 use Rattle.unit.proofs.DecideLaws.{memory-passed, fields-passed, span-passed, named-passed, names-length, data-passed}
 
 -- ---- a span that a window holds is in memory, where no window ends past it
@@ -107,33 +120,55 @@ fields-granted Write h p from size n e r = (tt, tt)
 -- ---- the plan
 
 -- where the header allows the command
-module _ (u : TheUnit) (h : Header) (path : Path) (p : List ℕ) (end : End) (link n : ℕ) (works : usable u n ≡ true)
-    (whole : headerSize (h .instruction) ≤ length p) where
-  abbrev from : ℕ
-  from = headerSize (h .instruction)
+module _ (u : TheUnit) (h : Header) (path : Path) (p : Arrived) (n : ℕ) (works : usable u n ≡ true)
+    (whole : headerSize (h .instruction) ≤ length (p .packet)) where
+  abbrev size : ℕ
+  size = length (p .packet)
 
-  abbrev status : Status
-  status = dataStatus (drop from p) (wantedCount h) end
-
-  pub accepted-memory : h .protocol ≡ 0x01 → isSuccess (headerStatus u h path link) ≡ true
-      → Granted (memoryAction h status from (length p - from)) (length p) n
+  pub accepted-memory : h .protocol ≡ 0x01 → isSuccess (headerStatus u h path (p .link)) ≡ true → Granted (memoryActionIn h p) size n
   unfolding spanSize wantedCount
   accepted-memory e s =
-      let span = span-room u h n works (span-passed (u .windows) h (memory-passed u h path link e s) .1) in
-      memory-granted (kindIn h) h status from (length p - from) (length p) n (omega arith)
-      (λ t. sym (length-drop from p) ∙ data-passed (drop from p) (wantedCount h) end t .1) span
+      let span = span-room u h n works (span-passed (u .windows) h (memory-passed u h path (p .link) e s) .1) in
+      memory-granted (kindIn h) h (dataStatusOf h p) (headerSize (h .instruction)) (dataCount h (allAtHand h p)) size n (omega arith)
+      (λ t. data-passed (dataCount h (allAtHand h p)) (allAtHand h p .dataCrc) (wantedCount h) (p .end) t .1) span
 
-  pub accepted-field : (h .protocol ≡ 0x01 → ⊥) → isSuccess (headerStatus u h path link) ≡ true → Granted (fieldAction h status p from) (length p) n
+  pub accepted-field : (h .protocol ≡ 0x01 → ⊥) → isSuccess (headerStatus u h path (p .link)) ≡ true → Granted (fieldActionIn h p) size n
   accepted-field e s =
-      let f = named-passed (u .owner) h path link (fields-passed u h path link e s) .0 in
-      let g = fields-granted (kindIn h) h p from (length p) n (names-length h f) (named-last h f) in
-      either (isSuccess status) g
+      let f = named-passed (u .owner) h path (p .link) (fields-passed u h path (p .link) e s) .0 in
+      let g = fields-granted (kindIn h) h (p .packet) (headerSize (h .instruction)) size n (names-length h f) (named-last h f) in
+      either (isSuccess (dataStatusOf h p)) g
     where
-      either : (t : Bool) → Granted (fieldActionOf (kindIn h) h p from) (length p) n
-          → Granted (cond t (fieldActionOf (kindIn h) h p from) Nothing) (length p) n
+      either : (t : Bool) → Granted (fieldActionOf (kindIn h) h (p .packet) (headerSize (h .instruction))) size n
+          → Granted (cond t (fieldActionOf (kindIn h) h (p .packet) (headerSize (h .instruction))) Nothing) size n
       either true g = g
       either false g = (tt, tt)
 
-  pub granted : (room : ℕ) → Granted (decided u h path p end link room .action) (length p) n
+  pub granted : (room : ℕ) → Granted (decided u h path p room .action) size n
   granted room =
-      decided-has u h path p end link room (λ s a. Granted a (length p) n) (λ s. (tt, tt)) accepted-memory accepted-field
+      decided-has u h path (allAtHand h p) (p .end) (p .link) room (λ s a. Granted a size n) (λ s. (tt, tt)) accepted-memory accepted-field
+
+-- so a judgement allows what it rules
+pub judged-allowed : (u : TheUnit) (p : Arrived) (sizes : Sizes) → GrantedBy (judged u p sizes .ruling) (length (p .packet)) (sizes .memory)
+unfolding judged
+judged-allowed u p sizes = go (usable u (sizes .memory)) (isLink u (p .link)) refl
+  where
+    read : Packet
+    read = readPacket (p .packet) (u .number)
+
+    Holds : Ruling → Type 0
+    Holds r = GrantedBy r (length (p .packet)) (sizes .memory)
+
+    time : (t : TimeReading) → Holds (timeRuling t)
+    time ThrownAway = tt
+    time (Taken t) = tt
+
+    reads : usable u (sizes .memory) ≡ true → (q : Reading) → read .reading ≡ q → Holds (rulingOn q (read .path) u p sizes)
+    reads works (Refused why) is = tt
+    reads works Time is = time (readTime (p .packet) (p .end) (u .logical) (u .number))
+    reads works (Command h) is = granted u h (read .path) p (sizes .memory) works (header-whole (p .packet) (u .number) h is) (sizes .reply)
+
+    go : (t s : Bool) → usable u (sizes .memory) ≡ t
+        → Holds (cond (not t) (outright Unusable) (cond (not s) (outright NoSuchLink) (judgedAs read u p sizes)) .ruling)
+    go false s e = tt
+    go true false e = tt
+    go true true e = reads e (read .reading) refl

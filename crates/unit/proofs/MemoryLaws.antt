@@ -7,30 +7,31 @@ use Prim.Native.Nat.{ℕ, zero, suc, _+_, _-_, _/_, _<_, _≤_, min}
 use native.Mathlib.Omega.{arith}
 use native.Mathlib.Decide.{decLe}
 use native.Mathlib.Nat.{lt-of-not-le}
-use lib.ListN.{length, getD, drop, replicate, length-drop}
+use lib.ListN.{length, getD, replicate, length-drop}
 use lib.Seq.{ext-getD}
 use Rattle.octets.specs.Places.{part, placed}
 use Rattle.octets.proofs.PlaceLaws.{length-part, part-at, length-placed, placed-before, placed-in, placed-after}
-use Rattle.packets.specs.Instruction.{isVerified, isIncrementing, headerSize}
+use Rattle.packets.specs.Instruction.{isRmw, isVerified, isIncrementing, headerSize}
+use Rattle.packets.specs.Header.{kindIn}
 use Rattle.packets.specs.declared.instruction.Instruction.{Instruction}
 use Rattle.packets.specs.declared.instruction.Kind.{Kind}
 use Rattle.packets.specs.declared.instruction.Kind.the-variants.{Unused, Read, ReadModifyWrite, Write}
 use Rattle.packets.specs.declared.header.Header.{Header}
 use Rattle.packets.specs.declared.path.Path.{Path}
-use Rattle.packets.specs.declared.reading.End.{End}
 use Rattle.unit.specs.Fate.{isSuccess}
 use Rattle.unit.specs.Usable.{usable}
-use Rattle.unit.specs.Decide.{kindIn, isRmw, spanSize, headerStatus, wantedCount, dataStatus}
-use Rattle.unit.specs.Plan.{readAction, rmwAction, writeAction, actionOf, memoryAction, fieldActionOf}
+use Rattle.unit.specs.Given.{Arrived}
+use Rattle.unit.specs.Decide.{spanSize, headerStatus, allAtHand, dataCount, dataStatusOf}
+use Rattle.unit.specs.Plan.{readAction, rmwAction, writeAction, actionOf, fieldActionOf}
 use Rattle.unit.specs.Act.{combined, lastOf, stored, dataFor}
-use Rattle.unit.specs.Granted.{Readable, Storable}
+use Rattle.unit.specs.Granted.{Readable, Storable, Granted}
 use Rattle.unit.specs.declared.fate.Status.{Status}
 use Rattle.unit.specs.declared.decide.Action.{Action}
 use Rattle.unit.specs.declared.decide.Action.the-variants.{Nothing, ReadMemory, RepeatByte, Store, StoreLast, Combine, ReadFields, Swap, WriteField}
 use Rattle.unit.specs.declared.unit.Unit.{Unit as TheUnit}
 use Rattle.unit.proofs.ActLaws.{length-now}
 use Rattle.unit.proofs.DecideLaws.{writes}
-use Rattle.unit.proofs.PlanLaws.{action-is}
+use Rattle.unit.proofs.PlanLaws.{action-is, memoryActionIn}
 use Rattle.unit.proofs.GrantLaws.{accepted-memory}
 
 -- ---- the bytes that an action puts into memory
@@ -169,33 +170,32 @@ action-stays kind h s from k =
     (λ a c. rw (a, c) (refl, omega arith))
 
 -- an accepted memory command: what it leaves of memory m, and of a memory that is like m in its span
-module _ (u : TheUnit) (h : Header) (path : Path) (p : List ℕ) (end : End) (link : ℕ) (m : List ℕ) (works : usable u (length m) ≡ true)
-    (whole : headerSize (h .instruction) ≤ length p) (rmap : h .protocol ≡ 0x01) (accepted : isSuccess (headerStatus u h path link) ≡ true) where
+module _ (u : TheUnit) (h : Header) (path : Path) (p : Arrived) (m : List ℕ) (works : usable u (length m) ≡ true)
+    (whole : headerSize (h .instruction) ≤ length (p .packet)) (rmap : h .protocol ≡ 0x01) (accepted : isSuccess (headerStatus u h path (p .link)) ≡ true) where
   abbrev action : Action
-  action = memoryAction h (dataStatus (drop (headerSize (h .instruction)) p) (wantedCount h) end) (headerSize (h .instruction)) (length p - headerSize (h .instruction))
+  action = memoryActionIn h p
+
+  allowed : Granted action (length (p .packet)) (length m)
+  allowed = accepted-memory u h path p (length m) works whole rmap accepted
 
   pub stays : StaysIn (h .address) (spanSize h) action
   unfolding spanSize
-  stays =
-      action-stays (kindIn h) h (dataStatus (drop (headerSize (h .instruction)) p) (wantedCount h) end) (headerSize (h .instruction))
-      (length p - headerSize (h .instruction))
+  stays = action-stays (kindIn h) h (dataStatusOf h p) (headerSize (h .instruction)) (dataCount h (allAtHand h p))
 
-  pub memory-length : length (stored action p m) ≡ length m
-  memory-length = stored-length action p m (accepted-memory u h path p end link (length m) works whole rmap accepted .1)
+  pub memory-length : length (stored action (p .packet) m) ≡ length m
+  memory-length = stored-length action (p .packet) m (allowed .1)
 
-  pub memory-outside : (i : ℕ) → (i < h .address) ⊎ (h .address + spanSize h ≤ i) → getD (stored action p m) i 0 ≡ getD m i 0
-  memory-outside i =
-      stored-outside action p m (h .address) (spanSize h) i (accepted-memory u h path p end link (length m) works whole rmap accepted .1) stays
+  pub memory-outside : (i : ℕ) → (i < h .address) ⊎ (h .address + spanSize h ≤ i) → getD (stored action (p .packet) m) i 0 ≡ getD m i 0
+  memory-outside i = stored-outside action (p .packet) m (h .address) (spanSize h) i (allowed .1) stays
 
   module _ (n : List ℕ) (same : length m ≡ length n)
       (alike : (i : ℕ) → h .address ≤ i → i < h .address + spanSize h → getD m i 0 ≡ getD n i 0) where
-    pub span-data : dataFor action u link m ≡ dataFor action u link n
-    span-data =
-        data-alike m n same (h .address) (spanSize h) alike action u link stays (accepted-memory u h path p end link (length m) works whole rmap accepted .0)
+    pub span-data : dataFor action u (p .link) m ≡ dataFor action u (p .link) n
+    span-data = data-alike m n same (h .address) (spanSize h) alike action u (p .link) stays (allowed .0)
 
-    pub span-stored : (i : ℕ) → h .address ≤ i → i < h .address + spanSize h → getD (stored action p m) i 0 ≡ getD (stored action p n) i 0
-    span-stored i b l =
-        stored-alike m n same (h .address) (spanSize h) alike action p i stays (accepted-memory u h path p end link (length m) works whole rmap accepted .1) b l
+    pub span-stored : (i : ℕ) → h .address ≤ i → i < h .address + spanSize h
+        → getD (stored action (p .packet) m) i 0 ≡ getD (stored action (p .packet) n) i 0
+    span-stored i b l = stored-alike m n same (h .address) (spanSize h) alike action (p .packet) i stays (allowed .1) b l
 
 -- ---- what each kind of command stores, and what it answers
 

@@ -2,12 +2,10 @@
 use mathlib.Core.Path.{_≡_, refl, sym, _∙_, ap}
 use mathlib.Core.Bool.{Bool, true, false, cond, not, _&&_, false≢true}
 use mathlib.Core.Logic.{_↔_}
-use mathlib.Core.List.{List}
-use Prim.Native.Nat.{ℕ, _-_, _/_, _<_, _≤_, min}
+use Prim.Native.Nat.{ℕ, _/_, _<_, _≤_, min}
 use native.Mathlib.Omega.{arith}
 use borrow.Author.Tests.{ltb-true, ltb-false, eqb-true, eqb-false}
 use lib.Dec.{eqb, ltb}
-use lib.ListN.{length, drop}
 use Rattle.packets.specs.Instruction.{isVerified, isIncrementing, wantsReply, headerSize}
 use Rattle.packets.specs.Reply.{replyLength}
 use Rattle.packets.specs.declared.instruction.Kind.{Kind}
@@ -16,8 +14,9 @@ use Rattle.packets.specs.declared.header.Header.{Header}
 use Rattle.packets.specs.declared.path.Path.{Path}
 use Rattle.packets.specs.declared.reading.End.{End}
 use Rattle.unit.specs.Fate.{byteOf, isSuccess, orElse, fateNumber}
-use Rattle.unit.specs.Decide.{headerStatus, wantedCount, dataStatus}
-use Rattle.unit.specs.Plan.{actionOf, memoryAction, fieldAction, replyCount, plannedFor, decidedByData, decided}
+use Rattle.unit.specs.Given.{Arrived}
+use Rattle.unit.specs.Decide.{headerStatus, AtHand, allAtHand, dataCount, dataStatusOn, dataStatusOf}
+use Rattle.unit.specs.Plan.{actionOf, memoryAction, fieldAction, replyCount, plannedFor, decidedByData, decidedOn}
 use Rattle.unit.specs.declared.fate.Status.{Status}
 use Rattle.unit.specs.declared.fate.Fate.{Fate}
 use Rattle.unit.specs.declared.fate.Fate.the-variants.{TimeChanged, Unusable, NoSuchLink, NoRoom, Unread, TimeThrownAway, NotObeyed, Obeyed, TimeTaken, Replied}
@@ -56,6 +55,14 @@ action-is P Write h s from k none read repeat combine store last = go (isVerifie
     go false true f = store refl f
     go false false f = last refl f
 
+-- ---- the actions of a packet that is all at hand, and whose header is accepted
+
+abbrev pub memoryActionIn : Header → Arrived → Action
+memoryActionIn h p = memoryAction h (dataStatusOf h p) (headerSize (h .instruction)) (dataCount h (allAtHand h p))
+
+abbrev pub fieldActionIn : Header → Arrived → Action
+fieldActionIn h p = fieldAction h (dataStatusOf h p) (p .packet) (headerSize (h .instruction))
+
 -- ---- a plan is one of four: no room for its reply, a reply, or, where none was asked for, obeyed or refused
 
 module _ (h : Header) (path : Path) (s : Status) (a : Action) (room : ℕ) where
@@ -81,7 +88,7 @@ module _ (h : Header) (path : Path) (s : Status) (a : Action) (room : ℕ) where
       go false b false e f g = refused e g
 
 -- it has the status it is given, and does what was to be done, or nothing
-planned-has : (P : Status → Action → Type 0) (h : Header) (path : Path) (status : Status) (action : Action) (room : ℕ)
+pub planned-has : (P : Status → Action → Type 0) (h : Header) (path : Path) (status : Status) (action : Action) (room : ℕ)
     → P status Nothing → P status action → P (plannedFor h path status action room .status) (plannedFor h path status action room .action)
 planned-has P h path status action room none some =
     planned-is h path status action room (λ plan. P (plan .status) (plan .action)) (λ w l. none) (λ w l. some) (λ w e. some) (λ w e. some)
@@ -92,25 +99,25 @@ abbrev status-in : Status → Fate → Status
 status-in s f = elim f [ TimeChanged ↦ s | Unusable ↦ s | NoSuchLink ↦ s | NoRoom ↦ s | Unread why ↦ s | TimeThrownAway ↦ s | NotObeyed t ↦ s | Obeyed ↦ s | TimeTaken ↦ s | Replied t ↦ t ]
 
 -- a plan is for one of three: the header's refusal, a memory action, or a field action that the header allowed
-module _ (u : TheUnit) (h : Header) (path : Path) (p : List ℕ) (end : End) (link room : ℕ) where
+module _ (u : TheUnit) (h : Header) (path : Path) (hand : AtHand) (end : End) (link room : ℕ) where
   abbrev from : ℕ
   from = headerSize (h .instruction)
 
   abbrev status : Status
-  status = dataStatus (drop from p) (wantedCount h) end
+  status = dataStatusOn h hand end
 
   abbrev accepted : Bool → Type 0
   accepted t = isSuccess (headerStatus u h path link) ≡ t
 
   pub decided-is : (Q : Plan → Type 0) → (accepted false → Q (plannedFor h path (headerStatus u h path link) Nothing room))
-      → (h .protocol ≡ 0x01 → accepted true → Q (plannedFor h path status (memoryAction h status from (length p - from)) room))
-      → ((h .protocol ≡ 0x01 → ⊥) → accepted true → Q (plannedFor h path status (fieldAction h status p from) room))
-      → Q (decided u h path p end link room)
-  unfolding decided decidedByData
+      → (h .protocol ≡ 0x01 → accepted true → Q (plannedFor h path status (memoryAction h status from (dataCount h hand)) room))
+      → ((h .protocol ≡ 0x01 → ⊥) → accepted true → Q (plannedFor h path status (fieldAction h status (hand .bytes) from) room))
+      → Q (decidedOn u h path hand end link room)
+  unfolding decidedOn decidedByData
   decided-is Q refused memory fields = go (isSuccess (headerStatus u h path link)) (eqb (h .protocol) 0x01) refl refl
     where
       chosen : Bool → Action
-      chosen b = cond b (memoryAction h status from (length p - from)) (fieldAction h status p from)
+      chosen b = cond b (memoryAction h status from (dataCount h hand)) (fieldAction h status (hand .bytes) from)
 
       go : (t b : Bool) → accepted t → eqb (h .protocol) 0x01 ≡ b
           → Q (cond t (plannedFor h path status (chosen b) room) (plannedFor h path (headerStatus u h path link) Nothing room))
@@ -120,20 +127,20 @@ module _ (u : TheUnit) (h : Header) (path : Path) (p : List ℕ) (end : End) (li
 
   -- so what holds of nothing, of the memory action and of the field action, holds of every plan
   pub decided-has : (P : Status → Action → Type 0) → ((s : Status) → P s Nothing)
-      → (h .protocol ≡ 0x01 → accepted true → P status (memoryAction h status from (length p - from)))
-      → ((h .protocol ≡ 0x01 → ⊥) → accepted true → P status (fieldAction h status p from))
-      → P (decided u h path p end link room .status) (decided u h path p end link room .action)
+      → (h .protocol ≡ 0x01 → accepted true → P status (memoryAction h status from (dataCount h hand)))
+      → ((h .protocol ≡ 0x01 → ⊥) → accepted true → P status (fieldAction h status (hand .bytes) from))
+      → P (decidedOn u h path hand end link room .status) (decidedOn u h path hand end link room .action)
   decided-has P none memory fields =
       decided-is (λ plan. P (plan .status) (plan .action))
       (λ s. planned-has P h path (headerStatus u h path link) Nothing room (none (headerStatus u h path link)) (none (headerStatus u h path link)))
-      (λ e s. planned-has P h path status (memoryAction h status from (length p - from)) room (none status) (memory e s))
-      (λ e s. planned-has P h path status (fieldAction h status p from) room (none status) (fields e s))
+      (λ e s. planned-has P h path status (memoryAction h status from (dataCount h hand)) room (none status) (memory e s))
+      (λ e s. planned-has P h path status (fieldAction h status (hand .bytes) from) room (none status) (fields e s))
 
   -- its status is the header's, and the data's where the header has none
-  pub plan-status : decided u h path p end link room .status ≡ orElse (headerStatus u h path link) status
+  pub plan-status : decidedOn u h path hand end link room .status ≡ orElse (headerStatus u h path link) status
   plan-status =
       decided-is (λ plan. plan .status ≡ orElse (headerStatus u h path link) status) (λ a. given (headerStatus u h path link) Nothing ∙ rw a)
-      (λ e a. given status (memoryAction h status from (length p - from)) ∙ rw a) (λ e a. given status (fieldAction h status p from) ∙ rw a)
+      (λ e a. given status (memoryAction h status from (dataCount h hand)) ∙ rw a) (λ e a. given status (fieldAction h status (hand .bytes) from) ∙ rw a)
     where
       given : (s : Status) (a : Action) → plannedFor h path s a room .status ≡ s
       given s a = planned-is h path s a room (λ plan. plan .status ≡ s) (λ w l. refl) (λ w l. refl) (λ w e. refl) (λ w e. refl)
@@ -143,10 +150,10 @@ module _ (u : TheUnit) (h : Header) (path : Path) (p : List ℕ) (end : End) (li
   Roomless plan =
       (fateNumber (plan .fate) ≡ 3) ↔ ((wantsReply (h .instruction) ≡ true) × (room < replyLength path h (byteOf (plan .status)) (replyCount h)))
 
-  pub roomless-plan : Roomless (decided u h path p end link room)
+  pub roomless-plan : Roomless (decidedOn u h path hand end link room)
   roomless-plan =
-      decided-is Roomless (λ a. planned (headerStatus u h path link) Nothing) (λ e a. planned status (memoryAction h status from (length p - from)))
-      (λ e a. planned status (fieldAction h status p from))
+      decided-is Roomless (λ a. planned (headerStatus u h path link) Nothing) (λ e a. planned status (memoryAction h status from (dataCount h hand)))
+      (λ e a. planned status (fieldAction h status (hand .bytes) from))
     where
       planned : (s : Status) (a : Action) → Roomless (plannedFor h path s a room)
       planned s a =
@@ -157,10 +164,10 @@ module _ (u : TheUnit) (h : Header) (path : Path) (p : List ℕ) (end : End) (li
   abbrev Fits : Plan → Type 0
   Fits plan = plan .length ≤ room
 
-  pub plan-fits : Fits (decided u h path p end link room)
+  pub plan-fits : Fits (decidedOn u h path hand end link room)
   plan-fits =
-      decided-is Fits (λ a. planned (headerStatus u h path link) Nothing) (λ e a. planned status (memoryAction h status from (length p - from)))
-      (λ e a. planned status (fieldAction h status p from))
+      decided-is Fits (λ a. planned (headerStatus u h path link) Nothing) (λ e a. planned status (memoryAction h status from (dataCount h hand)))
+      (λ e a. planned status (fieldAction h status (hand .bytes) from))
     where
       planned : (s : Status) (a : Action) → Fits (plannedFor h path s a room)
       planned s a = planned-is h path s a room Fits (λ w l. omega arith) (λ w l. l) (λ w e. omega arith) (λ w e. omega arith)
@@ -169,10 +176,10 @@ module _ (u : TheUnit) (h : Header) (path : Path) (p : List ℕ) (end : End) (li
   abbrev RepliesWith : Status → Plan → Type 0
   RepliesWith s plan = plan .fate ≡ Replied s → (plan .status ≡ s) × (wantsReply (h .instruction) ≡ true)
 
-  pub replied-plan : (s : Status) → RepliesWith s (decided u h path p end link room)
+  pub replied-plan : (s : Status) → RepliesWith s (decidedOn u h path hand end link room)
   replied-plan s =
-      decided-is (RepliesWith s) (λ a. planned (headerStatus u h path link) Nothing) (λ e a. planned status (memoryAction h status from (length p - from)))
-      (λ e a. planned status (fieldAction h status p from))
+      decided-is (RepliesWith s) (λ a. planned (headerStatus u h path link) Nothing) (λ e a. planned status (memoryAction h status from (dataCount h hand)))
+      (λ e a. planned status (fieldAction h status (hand .bytes) from))
     where
       planned : (t : Status) (a : Action) → RepliesWith s (plannedFor h path t a room)
       planned t a =
@@ -183,11 +190,11 @@ module _ (u : TheUnit) (h : Header) (path : Path) (p : List ℕ) (end : End) (li
   abbrev Carries : (Action → Type 0) → Plan → Type 0
   Carries P plan = fateNumber (plan .fate) ≡ 20 → isSuccess (plan .status) ≡ true → P (plan .action)
 
-  pub carried-plan : (P : Action → Type 0) → (h .protocol ≡ 0x01 → isSuccess status ≡ true → P (memoryAction h status from (length p - from)))
-      → ((h .protocol ≡ 0x01 → ⊥) → isSuccess status ≡ true → P (fieldAction h status p from)) → Carries P (decided u h path p end link room)
+  pub carried-plan : (P : Action → Type 0) → (h .protocol ≡ 0x01 → isSuccess status ≡ true → P (memoryAction h status from (dataCount h hand)))
+      → ((h .protocol ≡ 0x01 → ⊥) → isSuccess status ≡ true → P (fieldAction h status (hand .bytes) from)) → Carries P (decidedOn u h path hand end link room)
   carried-plan P memory fields =
       decided-is (Carries P) (λ a. planned (headerStatus u h path link) Nothing (λ e. absurd (false≢true (sym a ∙ e))))
-      (λ e a. planned status (memoryAction h status from (length p - from)) (memory e)) (λ e a. planned status (fieldAction h status p from) (fields e))
+      (λ e a. planned status (memoryAction h status from (dataCount h hand)) (memory e)) (λ e a. planned status (fieldAction h status (hand .bytes) from) (fields e))
     where
       planned : (s : Status) (a : Action) → (isSuccess s ≡ true → P a) → Carries P (plannedFor h path s a room)
       planned s a f =

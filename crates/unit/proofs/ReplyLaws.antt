@@ -2,26 +2,27 @@
 use mathlib.Core.Path.{_≡_, refl, sym, _∙_}
 use mathlib.Core.Bool.{Bool, true, false, cond, not, _&&_, _||_, false≢true}
 use mathlib.Core.List.{List}
-use Prim.Native.Nat.{ℕ, _-_, _/_, _%_, _^_, _<_, _≤_}
+use Prim.Native.Nat.{ℕ, _/_, _%_, _^_, _<_, _≤_}
 use native.Mathlib.Omega.{arith}
 use borrow.Author.Tests.{lt-ltb, le-leb, eqb-true, eq-eqb, not-true}
 use lib.Dec.{eqb, leb}
-use lib.ListN.{length, drop, getD, length-replicate}
+use lib.ListN.{length, getD, length-replicate}
 use Rattle.octets.specs.Places.{placed}
 use Rattle.octets.proofs.PlaceLaws.{length-part, first-true, second-true, either-false}
-use Rattle.packets.specs.Instruction.{typeOf, isWrite, isIncrementing, headerSize}
+use Rattle.packets.specs.Instruction.{typeOf, isWrite, isIncrementing, isUnused, isRmw, headerSize}
+use Rattle.packets.specs.Header.{kindIn}
 use Rattle.packets.specs.Reply.{carriesData, carriedCount, replyOf, replyLength, replied}
 use Rattle.packets.specs.declared.instruction.Kind.{Kind}
 use Rattle.packets.specs.declared.instruction.Kind.the-variants.{Unused, Read, ReadModifyWrite, Write}
 use Rattle.packets.specs.declared.header.Header.{Header}
 use Rattle.packets.specs.declared.path.Path.{Path}
-use Rattle.packets.specs.declared.reading.End.{End}
 use Rattle.packets.proofs.ReplyLaws.{same-length, length-reply}
 use Rattle.unit.specs.Fate.{byteOf, isSuccess, fateNumber}
 use Rattle.unit.specs.Usable.{usable}
 use Rattle.unit.specs.Fields.{named, valuesOf}
-use Rattle.unit.specs.Decide.{kindIn, isUnused, isRmw, openingStatus, spanStatus, isFieldLength, fieldsStatus, headerStatus, wantedCount, dataStatus}
-use Rattle.unit.specs.Plan.{actionOf, memoryAction, fieldActionOf, fieldAction, replyCount, plannedFor, decided}
+use Rattle.unit.specs.Given.{Arrived, Lent}
+use Rattle.unit.specs.Decide.{openingStatus, spanStatus, isFieldLength, fieldsStatus, headerStatus, allAtHand, dataCount, dataStatusOf}
+use Rattle.unit.specs.Plan.{actionOf, fieldActionOf, replyCount, plannedFor, decided}
 use Rattle.unit.specs.Act.{dataFor, repliedTo}
 use Rattle.unit.specs.Granted.{Readable}
 use Rattle.unit.specs.declared.fate.Status.{Status}
@@ -33,7 +34,7 @@ use Rattle.unit.specs.declared.unit.Unit.{Unit as TheUnit}
 use Rattle.unit.proofs.FateLaws.{passed, or-else}
 use Rattle.unit.proofs.FieldLaws.{length-named, length-fields}
 use Rattle.unit.proofs.DecideLaws.{write-bit, fields-passed, named-passed, names-length}
-use Rattle.unit.proofs.PlanLaws.{planned-is, decided-is}
+use Rattle.unit.proofs.PlanLaws.{memoryActionIn, fieldActionIn, planned-is, decided-is}
 use Rattle.unit.proofs.GrantLaws.{accepted-memory}
 
 -- ---- the code
@@ -91,16 +92,16 @@ carries-passed h s e =
     let w = isWrite (h .instruction) in
     (not-true w (first-true (not w) (isSuccess s) e), second-true (not w) (isSuccess s) e)
 
-module _ (u : TheUnit) (h : Header) (path : Path) (link : ℕ) (m : List ℕ) (room : ℕ) where
+module _ (u : TheUnit) (h : Header) (path : Path) (p : Arrived) (m : List ℕ) (room : ℕ) where
   -- a plan that replies has counted its data, and they have room
   abbrev Counted : Plan → Type 0
   Counted plan =
       fateNumber (plan .fate) ≡ 20
-      → (carriesData h (byteOf (plan .status)) ≡ true → replyCount h ≡ length (dataFor (plan .action) u link m))
+      → (carriesData h (byteOf (plan .status)) ≡ true → replyCount h ≡ length (dataFor (plan .action) u (p .link) m))
       × (plan .length ≡ replyLength path h (byteOf (plan .status)) (replyCount h))
       × (plan .length ≤ room)
 
-  planned-counts : (s : Status) (a : Action) → (carriesData h (byteOf s) ≡ true → replyCount h ≡ length (dataFor a u link m))
+  planned-counts : (s : Status) (a : Action) → (carriesData h (byteOf s) ≡ true → replyCount h ≡ length (dataFor a u (p .link) m))
       → Counted (plannedFor h path s a room)
   planned-counts s a f =
       planned-is h path s a room Counted (λ w l n. absurd (omega (arith, n))) (λ w l n. (f, refl, l)) (λ w e n. absurd (omega (arith, n)))
@@ -113,56 +114,62 @@ module _ (u : TheUnit) (h : Header) (path : Path) (link : ℕ) (m : List ℕ) (r
   no-write : (s : Status) → carriesData h (byteOf s) ≡ true → kindIn h ≡ Write → ⊥
   no-write s c k = false≢true (sym (carries-passed h s c .0) ∙ write-bit h k)
 
-  pub counted : (p : List ℕ) (end : End) → usable u (length m) ≡ true → headerSize (h .instruction) ≤ length p → Counted (decided u h path p end link room)
+  pub counted : usable u (length m) ≡ true → headerSize (h .instruction) ≤ length (p .packet) → Counted (decided u h path p room)
   unfolding replyCount
-  counted p end works whole =
-      decided-is u h path p end link room Counted
-      (λ s. refused-counts (headerStatus u h path link) Nothing s)
-      (λ e s. planned-counts status (memoryAction h status from (length p - from))
-      (λ c. memory-count u h link m (kindIn h) status from (length p - from) (carries-passed h status c .1) (accepted-code u h path link s) (no-write status c)
-      (accepted-memory u h path p end link (length m) works whole e s .0)))
-      (λ e s. planned-counts status (fieldAction h status p from) (λ c. with-fields e s c))
+  counted works whole =
+      decided-is u h path (allAtHand h p) (p .end) (p .link) room Counted
+      (λ s. refused-counts (headerStatus u h path (p .link)) Nothing s)
+      (λ e s. planned-counts status (memoryActionIn h p)
+      (λ c. memory-count u h (p .link) m (kindIn h) status from (dataCount h (allAtHand h p)) (carries-passed h status c .1) (accepted-code u h path (p .link) s) (no-write status c)
+      (accepted-memory u h path p (length m) works whole e s .0)))
+      (λ e s. planned-counts status (fieldActionIn h p) (λ c. with-fields e s c))
     where
       from : ℕ
       from = headerSize (h .instruction)
 
       status : Status
-      status = dataStatus (drop from p) (wantedCount h) end
+      status = dataStatusOf h p
 
-      with-fields : (h .protocol ≡ 0x01 → ⊥) → isSuccess (headerStatus u h path link) ≡ true → carriesData h (byteOf status) ≡ true
-          → cond (isRmw (kindIn h)) (h .length / 2) (h .length) ≡ length (dataFor (fieldAction h status p from) u link m)
+      with-fields : (h .protocol ≡ 0x01 → ⊥) → isSuccess (headerStatus u h path (p .link)) ≡ true → carriesData h (byteOf status) ≡ true
+          → cond (isRmw (kindIn h)) (h .length / 2) (h .length) ≡ length (dataFor (fieldActionIn h p) u (p .link) m)
       with-fields e s c =
-          let f = names-length h (named-passed (u .owner) h path link (fields-passed u h path link e s) .0) in
-          rw (carries-passed h status c .1) (field-count u h link m (kindIn h) p from f (accepted-code u h path link s) (no-write status c))
+          let f = names-length h (named-passed (u .owner) h path (p .link) (fields-passed u h path (p .link) e s) .0) in
+          rw (carries-passed h status c .1) (field-count u h (p .link) m (kindIn h) (p .packet) from f (accepted-code u h path (p .link) s) (no-write status c))
 
 -- ---- the buffer
 
 -- where the fate is 20, the answer's length is that of the reply, and all of it stands at the buffer's start
-pub reply-written : (u : TheUnit) (h : Header) (path : Path) (p : List ℕ) (end : End) (link : ℕ) (m r : List ℕ)
-    → usable u (length m) ≡ true → headerSize (h .instruction) ≤ length p → h .length < 256 ^ 3
-    → fateNumber (decided u h path p end link (length r) .fate) ≡ 20
-    → (decided u h path p end link (length r) .length
-    ≡ length (replyOf path h (byteOf (decided u h path p end link (length r) .status)) (dataFor (decided u h path p end link (length r) .action) u link m)))
-    × (repliedTo (decided u h path p end link (length r)) u h path link m r
-    ≡ placed 0 (replyOf path h (byteOf (decided u h path p end link (length r) .status)) (dataFor (decided u h path p end link (length r) .action) u link m)) r)
-    × (decided u h path p end link (length r) .length ≤ length r)
-unfolding repliedTo replied replyCount
-reply-written u h path p end link m r works whole small n =
-    let plan = decided u h path p end link (length r) in
-    let status = byteOf (plan .status) in
-    let d = dataFor (plan .action) u link m in
-    let c = counted u h path link m (length r) p end works whole n in
-    let same = same-length path h status (replyCount h) (length d) (c .0) in
-    let few : carriedCount h status (length d) < 256 ^ 3 = few-data (carriesData h status) (replyCount h) (length d) (c .0) (half (isRmw (kindIn h))) in (
-      c .1 ∙ same ∙ sym (length-reply path h status d),
-      rw (eq-eqb _ _ n, lt-ltb (carriedCount h status (length d)) (256 ^ 3) few, le-leb (replyLength path h status (length d)) (length r) (omega (arith, c .1, c .2, same))),
-      c .2,
-    )
-  where
-    few-data : (t : Bool) (k l : ℕ) → (t ≡ true → k ≡ l) → k < 256 ^ 3 → cond t l 0 < 256 ^ 3
-    few-data true k l f b = let e = f refl in omega (arith, e, b)
-    few-data false k l f b = omega arith
+module _ (u : TheUnit) (h : Header) (path : Path) (p : Arrived) (lent : Lent) where
+  abbrev plan : Plan
+  plan = decided u h path p (length (lent .reply))
 
-    half : (t : Bool) → cond t (h .length / 2) (h .length) < 256 ^ 3
-    half true = omega (arith, small)
-    half false = small
+  -- what is written
+  abbrev pub replyIn : List ℕ
+  replyIn = replyOf path h (byteOf (plan .status)) (dataFor (plan .action) u (p .link) (lent .memory))
+
+  pub reply-written : usable u (length (lent .memory)) ≡ true → headerSize (h .instruction) ≤ length (p .packet) → h .length < 256 ^ 3
+      → fateNumber (plan .fate) ≡ 20
+      → (plan .length ≡ length replyIn) × (repliedTo plan u h path (p .link) lent ≡ placed 0 replyIn (lent .reply)) × (plan .length ≤ length (lent .reply))
+  unfolding repliedTo replied replyCount
+  reply-written works whole small n =
+      let status = byteOf (plan .status) in
+      let d = dataFor (plan .action) u (p .link) (lent .memory) in
+      let c = counted u h path p (lent .memory) (length (lent .reply)) works whole n in
+      let same = same-length path h status (replyCount h) (length d) (c .0) in
+      let few : carriedCount h status (length d) < 256 ^ 3 = few-data (carriesData h status) (replyCount h) (length d) (c .0) (half (isRmw (kindIn h))) in (
+        c .1 ∙ same ∙ sym (length-reply path h status d),
+        rw (
+          eq-eqb _ _ n,
+          lt-ltb (carriedCount h status (length d)) (256 ^ 3) few,
+          le-leb (replyLength path h status (length d)) (length (lent .reply)) (omega (arith, c .1, c .2, same)),
+        ),
+        c .2,
+      )
+    where
+      few-data : (t : Bool) (k l : ℕ) → (t ≡ true → k ≡ l) → k < 256 ^ 3 → cond t l 0 < 256 ^ 3
+      few-data true k l f b = let e = f refl in omega (arith, e, b)
+      few-data false k l f b = omega arith
+
+      half : (t : Bool) → cond t (h .length / 2) (h .length) < 256 ^ 3
+      half true = omega (arith, small)
+      half false = small

@@ -1,7 +1,6 @@
 -- A usable unit is usable after any call.
 use mathlib.Core.Path.{_≡_, refl}
 use mathlib.Core.Bool.{Bool, true, false, cond, not, _&&_, false≢true}
-use mathlib.Core.List.{List}
 use Prim.Native.Nat.{ℕ, _+_, _*_, _%_, _^_, _<_, _≤_}
 use native.Mathlib.Omega.{arith}
 use borrow.Author.Tests.{lt-ltb, le-leb, leb-true, ltb-true}
@@ -12,7 +11,6 @@ use Rattle.octets.proofs.PlaceLaws.{first-true, second-true}
 use Rattle.packets.specs.Path.{pathOf}
 use Rattle.packets.specs.Reading.{readPacket}
 use Rattle.packets.specs.declared.path.Path.{Path}
-use Rattle.packets.specs.declared.reading.End.{End}
 use Rattle.packets.specs.declared.time.When.{When}
 use Rattle.packets.specs.declared.time.When.the-variants.{AtWrap, AtOnce}
 use Rattle.packets.specs.declared.time.Time.{Time as TheTime}
@@ -25,7 +23,9 @@ use Rattle.unit.specs.Clock.{timeOf, secondsOf, setAt, afterTime, atWrap
 use Rattle.unit.specs.Owner.{unowned, swapped}
 use Rattle.unit.specs.Fields.{dividerWritten}
 use Rattle.unit.specs.Act.{withClock, withFields, withOwner}
-use Rattle.unit.specs.Calls.{isLink, takePacket, takeTimeCode, takeTicks}
+use Rattle.unit.specs.Given.{Arrived, Lent}
+use Rattle.unit.specs.Judge.{isLink}
+use Rattle.unit.specs.Calls.{takePacket, takeTimeCode, takeTicks}
 use Rattle.unit.specs.declared.windows.Question.the-variants.{EndsPast}
 use Rattle.unit.specs.declared.clock.Clock.{Clock}
 use Rattle.unit.specs.declared.clock.Elapsed.{Elapsed}
@@ -165,32 +165,37 @@ unfolding usable
 alone u n e = second-true (leb 1 n && leb n 65536 && not (some (meets (EndsPast n)) (used (u .windows)))) (usableUnit u) e
 
 -- any packet of bytes
-pub usable-packet : (u : TheUnit) (p : List ℕ) (end : End) (link : ℕ) (m r : List ℕ) → Digits 256 p → usable u (length m) ≡ true
-    → usable (takePacket u p end link m r .answer .unit) (length m) ≡ true
+pub usable-packet : (u : TheUnit) (p : Arrived) (lent : Lent) → Digits 256 (p .packet) → usable u (length (lent .memory)) ≡ true
+    → usable (takePacket u p lent .answer .unit) (length (lent .memory)) ≡ true
 unfolding usable usableUnit
-usable-packet u p end link m r d e =
-    unit-is u p end link m r (λ v. usable v (length m) ≡ true) (λ f v x. x) e
+usable-packet u p lent d e =
+    unit-is u p lent (λ v. usable v size ≡ true) (λ f v x. x) e
     (λ w t g. let c = afterTime (u .clock) t in
-    with-memory u (withClock u c) (length m) e refl (with-clock u c k (after-time (u .clock) t (taken-below p end (u .logical) (u .number) t d g) (clock-works u k))))
+    with-memory u (withClock u c) size e refl
+    (with-clock u c k (after-time (u .clock) t (taken-below (p .packet) (p .end) (u .logical) (u .number) t d g) (clock-works u k))))
     (λ w there h g q a. (
-      λ x new expected. let o = swapped (u .owner) new expected (h .initiator) path link in
-          with-memory u (withOwner u o) (length m) e refl (with-owner u o k (after-swap (u .owner) new expected (h .initiator) path link (packet-path p (u .number)) (low there) (owner-works u k))),
+      λ x new expected. let o = swapped (u .owner) new expected (h .initiator) path (p .link) in
+          with-memory u (withOwner u o) size e refl
+          (with-owner u o k (after-swap (u .owner) new expected (h .initiator) path (p .link) (packet-path (p .packet) (u .number)) (low there) (owner-works u k))),
       λ x word. (
-        with-memory u (withClock u (timeCodeWritten (u .clock) word)) (length m) e refl
+        with-memory u (withClock u (timeCodeWritten (u .clock) word)) size e refl
             (with-clock u (timeCodeWritten (u .clock) word) k (code-written (u .clock) word (clock-works u k))),
-        with-memory u (withFields u (dividerWritten (u .fields) word)) (length m) e refl k,
+        with-memory u (withFields u (dividerWritten (u .fields) word)) size e refl k,
       ),
     ))
   where
+    size : ℕ
+    size = length (lent .memory)
+
     path : Path
-    path = readPacket p (u .number) .path
+    path = readPacket (p .packet) (u .number) .path
 
     k : usableUnit u ≡ true
-    k = alone u (length m) e
+    k = alone u size e
 
-    low : isLink u link ≡ true → link ≤ 31
+    low : isLink u (p .link) ≡ true → p .link ≤ 31
     low there =
-        let a = leb-true link (u .links) (second-true (leb 1 link) (leb link (u .links)) there) in
+        let a = leb-true (p .link) (u .links) (second-true (leb 1 (p .link)) (leb (p .link) (u .links)) there) in
         let b = leb-true (u .links) 31 (works u k .4) in
         omega (arith, a, b)
 

@@ -11,6 +11,7 @@ use Rattle.packets.specs.Reply.{replied}
 use Rattle.packets.specs.declared.header.Header.{Header}
 use Rattle.packets.specs.declared.path.Path.{Path}
 use Rattle.unit.specs.Fate.{byteOf, fateNumber}
+use Rattle.unit.specs.Given.{Lent}
 use Rattle.unit.specs.Clock.{timeCodeWritten}
 use Rattle.unit.specs.Owner.{swapped}
 use Rattle.unit.specs.Fields.{rowOf, timeCodeCounter, divider, named, valuesOf, fieldBytes, dividerWritten}
@@ -69,10 +70,12 @@ dataFor (ReadFields address count) u link m =
 dataFor (Swap new expected) u link m = bytesOf 4 (u .owner .device)
 dataFor (WriteField address word) u link m = []
 
--- The reply buffer r after a plan: 20 writes the reply, any other fate nothing.
-unfoldable pub repliedTo : Plan → TheUnit → Header → Path → ℕ → List ℕ → List ℕ → List ℕ
-repliedTo plan u h path link m r =
-    cond (eqb (fateNumber (plan .fate)) 20) (replied path h (byteOf (plan .status)) (dataFor (plan .action) u link m) r) r
+-- The reply buffer after a plan: 20 writes the reply, any other fate nothing.
+unfoldable pub repliedTo : Plan → TheUnit → Header → Path → ℕ → Lent → List ℕ
+repliedTo plan u h path link lent =
+    cond (eqb (fateNumber (plan .fate)) 20)
+    (replied path h (byteOf (plan .status)) (dataFor (plan .action) u link (lent .memory)) (lent .reply))
+    (lent .reply)
 
 -- ---- the unit
 

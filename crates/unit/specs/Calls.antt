@@ -1,25 +1,20 @@
 -- The three calls (document 01, 'The terminal and its neighbours', 'Numbers a caller gets'). This is what a packet means.
-use mathlib.Core.Bool.{Bool, cond, not, _&&_}
+use mathlib.Core.Bool.{cond}
 use mathlib.Core.List.{List}
 use Prim.Native.Nat.{ℕ, _%_, _^_}
-use lib.Dec.{leb}
-use lib.ListN.{length}
-use Rattle.packets.specs.Reading.{readPacket}
-use Rattle.packets.specs.Time.{readTime}
 use Rattle.packets.specs.declared.header.Header.{Header}
 use Rattle.packets.specs.declared.path.Path.{Path}
-use Rattle.packets.specs.declared.reading.End.{End}
-use Rattle.packets.specs.declared.reading.Reading.{Reading}
-use Rattle.packets.specs.declared.reading.Reading.the-variants.{Refused, Time, Command}
-use Rattle.packets.specs.declared.time.TimeReading.{TimeReading}
-use Rattle.packets.specs.declared.time.TimeReading.the-variants.{ThrownAway, Taken}
-use Rattle.unit.specs.Usable.{usableUnit, usable}
+use Rattle.unit.specs.Usable.{usableUnit}
+use Rattle.unit.specs.Given.{Arrived, Lent, sizesOf}
 use Rattle.unit.specs.Clock.{afterTime, afterCode, afterTicks}
-use Rattle.unit.specs.Plan.{decided}
+use Rattle.unit.specs.Judge.{judged}
 use Rattle.unit.specs.Act.{stored, repliedTo, withClock, changed, countedUnit}
 use Rattle.unit.specs.declared.fate.Fate.{Fate}
-use Rattle.unit.specs.declared.fate.Fate.the-variants.{TimeChanged, Unusable, NoSuchLink, Unread, TimeThrownAway, TimeTaken}
+use Rattle.unit.specs.declared.fate.Fate.the-variants.{TimeChanged, Unusable, TimeTaken}
 use Rattle.unit.specs.declared.decide.Plan.{Plan}
+use Rattle.unit.specs.declared.judging.Ruling.{Ruling}
+use Rattle.unit.specs.declared.judging.Ruling.the-variants.{Ends, SetsTime, Planned}
+use Rattle.unit.specs.declared.judging.Judgement.{Judgement}
 use Rattle.unit.specs.declared.calls.Answer.{Answer}
 use Rattle.unit.specs.declared.unit.Unit.{Unit as TheUnit}
 
@@ -33,46 +28,35 @@ pub record Outcome : Type 0 where
 abbrev pub withoutReply : Fate → TheUnit → Answer
 withoutReply fate u = record { unit = u; fate = fate; length = 0 }
 
--- Memory and reply buffer are left as they were.
-abbrev pub leaving : Answer → List ℕ → List ℕ → Outcome
-leaving a m r = record { answer = a; memory = m; reply = r }
+-- What is lent is left as it was.
+abbrev pub leaving : Answer → Lent → Outcome
+leaving a lent = record { answer = a; memory = lent .memory; reply = lent .reply }
 
--- A command: decide, then act, then settle.
-abbrev pub acted : Plan → TheUnit → Header → Path → List ℕ → ℕ → List ℕ → List ℕ → Outcome
-acted plan u h path p link m r = record {
+-- A command, from a packet's bytes: the reply is written, memory stored to, the unit changed and counted, as the plan has it.
+abbrev pub acted : Plan → TheUnit → Header → Path → List ℕ → ℕ → Lent → Outcome
+acted plan u h path bytes link lent = record {
   answer = record {
     unit = countedUnit (plan .fate) (changed (plan .action) u (h .initiator) path link);
     fate = plan .fate;
     length = plan .length;
   };
-  memory = stored (plan .action) p m;
-  reply = repliedTo plan u h path link m r;
+  memory = stored (plan .action) bytes (lent .memory);
+  reply = repliedTo plan u h path link lent;
 }
 
-unfoldable pub takeCommand : TheUnit → Header → Path → List ℕ → End → ℕ → List ℕ → List ℕ → Outcome
-takeCommand u h path p end link m r = acted (decided u h path p end link (length r)) u h path p link m r
+-- What is done by a ruling on a packet of these bytes, from that link. Where the fate is all, it is counted (1 and 2 count nothing); a time packet that is
+-- taken sets the time.
+abbrev pub doneBy : Ruling → Path → TheUnit → List ℕ → ℕ → Lent → Outcome
+doneBy (Ends fate) path u bytes link lent = leaving (withoutReply fate (countedUnit fate u)) lent
+doneBy (SetsTime t) path u bytes link lent = leaving (withoutReply TimeTaken (countedUnit TimeTaken (withClock u (afterTime (u .clock) t)))) lent
+doneBy (Planned h plan) path u bytes link lent = acted plan u h path bytes link lent
 
--- A time packet: 19 taken, or 16 thrown away.
-abbrev pub takeTime : TimeReading → TheUnit → Answer
-takeTime ThrownAway u = withoutReply TimeThrownAway (countedUnit TimeThrownAway u)
-takeTime (Taken t) u = withoutReply TimeTaken (countedUnit TimeTaken (withClock u (afterTime (u .clock) t)))
+abbrev pub done : Judgement → TheUnit → List ℕ → ℕ → Lent → Outcome
+done judgement u bytes link lent = doneBy (judgement .ruling) (judgement .path) u bytes link lent
 
--- What was read: refused (11 to 15), time, or a command.
-abbrev pub takeReading : Reading → TheUnit → Path → List ℕ → End → ℕ → List ℕ → List ℕ → Outcome
-takeReading (Refused why) u path p end link m r = leaving (withoutReply (Unread why) (countedUnit (Unread why) u)) m r
-takeReading Time u path p end link m r = leaving (takeTime (readTime p end (u .logical) (u .number)) u) m r
-takeReading (Command h) u path p end link m r = takeCommand u h path p end link m r
-
--- A link of the unit: 1 up to the link count.
-abbrev pub isLink : TheUnit → ℕ → Bool
-isLink u link = leb 1 link && leb link (u .links)
-
--- A packet p with its end, on a link, with memory m and reply buffer r. 1 goes before 2, 2 before all else; both leave everything.
-unfoldable pub takePacket : TheUnit → List ℕ → End → ℕ → List ℕ → List ℕ → Outcome
-takePacket u p end link m r =
-    cond (not (usable u (length m))) (leaving (withoutReply Unusable u) m r)
-    (cond (not (isLink u link)) (leaving (withoutReply NoSuchLink u) m r)
-    (takeReading (readPacket p (u .number) .reading) u (readPacket p (u .number) .path) p end link m r))
+-- A packet that arrived, with what is lent for it: judged, then done.
+unfoldable pub takePacket : TheUnit → Arrived → Lent → Outcome
+takePacket u p lent = done (judged u p (sizesOf lent)) u (p .packet) (p .link) lent
 
 -- The small calls answer 1 (less its two memory causes) or 0.
 abbrev pub smallCall : TheUnit → TheUnit → Answer

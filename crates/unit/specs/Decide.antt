@@ -1,12 +1,13 @@
 -- What is to be done with a command (document 01, 'Reading a packet', 'Span', 'Fields', 'Owner'): decided before anything is touched. Nothing here
 -- speaks of memory's contents or of a counter.
-use mathlib.Core.Bool.{Bool, true, false, cond, not, _&&_, _||_}
+use mathlib.Core.Bool.{Bool, true, cond, not, _&&_, _||_}
 use mathlib.Core.List.{List}
-use Prim.Native.Nat.{ℕ, _+_, _/_, _%_, _^_, min}
+use Prim.Native.Nat.{ℕ, _+_, _-_, _/_, _%_, _^_, min}
 use lib.Dec.{eqb, leb, ltb}
-use lib.ListN.{length}
+use lib.ListN.{length, drop}
 use Rattle.octets.specs.Crc.{crc}
-use Rattle.packets.specs.Instruction.{typeOf, codeOf, kindOf, isWrite, isVerified, isIncrementing}
+use Rattle.packets.specs.Instruction.{typeOf, codeOf, isWrite, isVerified, isIncrementing, isUnused, isRead, isRmw, headerSize}
+use Rattle.packets.specs.Header.{kindIn}
 use Rattle.packets.specs.Reading.{isEop}
 use Rattle.packets.specs.declared.instruction.Kind.{Kind}
 use Rattle.packets.specs.declared.instruction.Kind.the-variants.{Unused, Read, ReadModifyWrite, Write}
@@ -15,6 +16,7 @@ use Rattle.packets.specs.declared.path.Path.{Path}
 use Rattle.packets.specs.declared.reading.End.{End}
 use Rattle.unit.specs.Some.{some}
 use Rattle.unit.specs.Fate.{orElse}
+use Rattle.unit.specs.Given.{Arrived}
 use Rattle.unit.specs.Windows.{meets, used}
 use Rattle.unit.specs.Owner.{isOwner}
 use Rattle.unit.specs.Fields.{fieldOf, named, isMissing, rightOf, writeOffence, swapOffence}
@@ -25,28 +27,6 @@ use Rattle.unit.specs.declared.windows.Windows.{Windows}
 use Rattle.unit.specs.declared.windows.Question.the-variants.{Allows}
 use Rattle.unit.specs.declared.owner.Owner.{Owner}
 use Rattle.unit.specs.declared.unit.Unit.{Unit as TheUnit}
-
--- The kind of a command, by its code.
-abbrev pub kindIn : Header → Kind
-kindIn h = kindOf (codeOf (h .instruction))
-
-abbrev pub isUnused : Kind → Bool
-isUnused Unused = true
-isUnused Read = false
-isUnused ReadModifyWrite = false
-isUnused Write = false
-
-abbrev pub isRmw : Kind → Bool
-isRmw Unused = false
-isRmw Read = false
-isRmw ReadModifyWrite = true
-isRmw Write = false
-
-abbrev pub isRead : Kind → Bool
-isRead Unused = false
-isRead Read = true
-isRead ReadModifyWrite = false
-isRead Write = false
 
 -- ---- the first half: what the header decides
 
@@ -131,12 +111,37 @@ headerStatus u h path link =
 unfoldable pub wantedCount : Header → ℕ
 wantedCount h = cond (isRead (kindIn h)) 0 (h .length + 1)
 
--- 7 ended by EEP; 5 early EOP; 6 too much data; 4 data CRC. The bytes end in their CRC, so all of them have the CRC 0; so have the none
--- that a read wants.
-unfoldable pub dataStatus : List ℕ → ℕ → End → Status
-dataStatus bytes wanted end =
+-- 7 ended by EEP; 5 early EOP; 6 too much data; 4 data CRC: by the number k of bytes behind the header, and by their CRC. They end in their own CRC,
+-- so all of them have the CRC 0; so have the none that a read wants.
+unfoldable pub dataStatus : ℕ → ℕ → ℕ → End → Status
+dataStatus k dataCrc wanted end =
     cond (not (isEop end)) EndedByEep
-    (cond (ltb (length bytes) wanted) EarlyEop
-    (cond (ltb wanted (length bytes)) TooMuchData
-    (cond (not (eqb (crc bytes) 0)) DataCrc
+    (cond (ltb k wanted) EarlyEop
+    (cond (ltb wanted k) TooMuchData
+    (cond (not (eqb dataCrc 0)) DataCrc
     Success)))
+
+-- What is at hand of a packet whose header is whole: its bytes from the start on, all or the first; how many came in all; and the CRC of those behind
+-- the header.
+pub record AtHand : Type 0 where
+  pub bytes : List ℕ
+  pub came : ℕ
+  pub dataCrc : ℕ
+
+abbrev pub allAtHand : Header → Arrived → AtHand
+allAtHand h p = record {
+  bytes = p .packet;
+  came = length (p .packet);
+  dataCrc = crc (drop (headerSize (h .instruction)) (p .packet));
+}
+
+-- How many bytes came behind the header, and the status that they give.
+abbrev pub dataCount : Header → AtHand → ℕ
+dataCount h hand = hand .came - headerSize (h .instruction)
+
+abbrev pub dataStatusOn : Header → AtHand → End → Status
+dataStatusOn h hand end = dataStatus (dataCount h hand) (hand .dataCrc) (wantedCount h) end
+
+-- Where all is at hand.
+abbrev pub dataStatusOf : Header → Arrived → Status
+dataStatusOf h p = dataStatusOn h (allAtHand h p) (p .end)

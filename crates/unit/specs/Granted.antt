@@ -3,6 +3,8 @@ use Prim.Native.Nat.{ℕ, _+_, _^_, _≤_, min}
 use Rattle.packets.specs.declared.instruction.Kind.{Kind}
 use Rattle.packets.specs.declared.instruction.Kind.the-variants.{Unused, Read, ReadModifyWrite, Write}
 use Rattle.unit.specs.Fields.{fieldOf}
+use Rattle.unit.specs.declared.judging.Ruling.{Ruling}
+use Rattle.unit.specs.declared.judging.Ruling.the-variants.{Ends, SetsTime, Planned}
 use Rattle.unit.specs.declared.decide.Action.{Action}
 use Rattle.unit.specs.declared.decide.Action.the-variants.{Nothing, ReadMemory, RepeatByte, Store, StoreLast, Combine, ReadFields, Swap, WriteField}
 
@@ -39,3 +41,9 @@ Storable (WriteField address word) p m = Unit
 
 abbrev pub Granted : Action → ℕ → ℕ → Type 0
 Granted a p m = Readable a m × Storable a p m
+
+-- The same of what a ruling has planned.
+abbrev pub GrantedBy : Ruling → ℕ → ℕ → Type 0
+GrantedBy (Ends fate) p m = Unit
+GrantedBy (SetsTime t) p m = Unit
+GrantedBy (Planned h plan) p m = Granted (plan .action) p m

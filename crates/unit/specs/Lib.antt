@@ -6,8 +6,10 @@ pub mod Clock
 pub mod Owner
 pub mod Fields
 pub mod Usable
+pub mod Given
 pub mod Decide
 pub mod Plan
+pub mod Judge
 pub mod Granted
 pub mod Act
 pub mod Calls

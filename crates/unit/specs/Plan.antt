@@ -2,12 +2,12 @@
 -- reply is.
 use mathlib.Core.Bool.{cond, not, _&&_}
 use mathlib.Core.List.{List}
-use Prim.Native.Nat.{ℕ, _+_, _-_, _/_, min}
+use Prim.Native.Nat.{ℕ, _+_, _/_, min}
 use lib.Dec.{eqb, ltb}
-use lib.ListN.{length, drop}
 use Rattle.octets.specs.Places.{part}
 use Rattle.octets.specs.Numbers.{number}
-use Rattle.packets.specs.Instruction.{isVerified, isIncrementing, wantsReply, headerSize}
+use Rattle.packets.specs.Instruction.{isRmw, isVerified, isIncrementing, wantsReply, headerSize}
+use Rattle.packets.specs.Header.{kindIn}
 use Rattle.packets.specs.Reply.{replyLength}
 use Rattle.packets.specs.declared.instruction.Instruction.{Instruction}
 use Rattle.packets.specs.declared.instruction.Kind.{Kind}
@@ -16,7 +16,8 @@ use Rattle.packets.specs.declared.header.Header.{Header}
 use Rattle.packets.specs.declared.path.Path.{Path}
 use Rattle.packets.specs.declared.reading.End.{End}
 use Rattle.unit.specs.Fate.{byteOf, isSuccess}
-use Rattle.unit.specs.Decide.{kindIn, isRmw, rmwCount, headerStatus, wantedCount, dataStatus}
+use Rattle.unit.specs.Given.{Arrived}
+use Rattle.unit.specs.Decide.{rmwCount, headerStatus, AtHand, allAtHand, dataCount, dataStatusOn}
 use Rattle.unit.specs.declared.fate.Status.{Status}
 use Rattle.unit.specs.declared.fate.Fate.{Fate}
 use Rattle.unit.specs.declared.fate.Fate.the-variants.{NoRoom, NotObeyed, Obeyed, Replied}
@@ -81,17 +82,21 @@ plannedFor h path status action room =
     (answered status action (replyLength path h (byteOf status) (replyCount h)) room)
     (record { fate = unansweredFate status; status = status; action = action; length = 0 })
 
--- The second half, where the header allows the command. The data stand behind the header.
-unfoldable pub decidedByData : Header → Path → List ℕ → Status → ℕ → Plan
-decidedByData h path p status room =
+-- The second half, where the header allows the command, by the status that the data give. They stand behind the header.
+unfoldable pub decidedByData : Header → Path → AtHand → Status → ℕ → Plan
+decidedByData h path hand status room =
     plannedFor h path status
     (cond (eqb (h .protocol) 0x01)
-    (memoryAction h status (headerSize (h .instruction)) (length p - headerSize (h .instruction)))
-    (fieldAction h status p (headerSize (h .instruction)))) room
+    (memoryAction h status (headerSize (h .instruction)) (dataCount h hand))
+    (fieldAction h status (hand .bytes) (headerSize (h .instruction)))) room
 
--- Both: what the header refuses is refused; else the data decide.
-unfoldable pub decided : TheUnit → Header → Path → List ℕ → End → ℕ → ℕ → Plan
-decided u h path p end link room =
+-- Both, from what is at hand: what the header refuses is refused; else the data decide.
+unfoldable pub decidedOn : TheUnit → Header → Path → AtHand → End → ℕ → ℕ → Plan
+decidedOn u h path hand end link room =
     cond (isSuccess (headerStatus u h path link))
-    (decidedByData h path p (dataStatus (drop (headerSize (h .instruction)) p) (wantedCount h) end) room)
+    (decidedByData h path hand (dataStatusOn h hand end) room)
     (plannedFor h path (headerStatus u h path link) Nothing room)
+
+-- Where all is at hand.
+abbrev pub decided : TheUnit → Header → Path → Arrived → ℕ → Plan
+decided u h path p room = decidedOn u h path (allAtHand h p) (p .end) (p .link) room

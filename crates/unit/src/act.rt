@@ -32,7 +32,7 @@ pub(crate) fn respond(
     reply: &mut [u8],
 )
     requires { ⌜ Readable (plan .action) (length (now memory)) ⌝ }
-    ensures { λ _. ⌜ now (reply .exit) ≡ repliedTo plan unit h path link (now (memory .entry)) (now (reply .entry)) ⌝ }
+    ensures { λ _. ⌜ now (reply .exit) ≡ repliedTo plan unit h path link (record { memory = now (memory .entry); reply = now (reply .entry) }) ⌝ }
 {
     let fate = plan.fate;
     if fate.number() != 20 {

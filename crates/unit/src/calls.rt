@@ -1,23 +1,21 @@
 // The three calls on a unit (document 01, 'The terminal and its neighbours', 'Numbers a caller gets').
 ghost use mathlib.Core.Path.{_≡_};
-ghost use mathlib.Core.Bool.{true};
-ghost use Prim.Native.Nat.{_≤_};
 ghost use lib.ListN.{length};
-ghost use Rattle.packets.specs.Instruction.{headerSize};
-ghost use Rattle.packets.specs.Time.{readTime};
-ghost use Rattle.unit.specs.Usable.{usable};
+ghost use Rattle.unit.specs.Granted.{GrantedBy, Granted};
 ghost use Rattle.unit.specs.Act.{countedUnit};
-ghost use Rattle.unit.specs.Calls.{withoutReply, takeTime, takeCommand, takePacket, takeTimeCode, takeTicks};
+ghost use Rattle.unit.specs.Calls.{withoutReply, acted, done, takePacket, takeTimeCode, takeTicks};
 use crate::act;
 use crate::clock;
-use crate::decide::decide;
+use crate::decide::Plan;
 use crate::fate::Fate;
+use crate::judging::Judgement;
+use crate::judging::Ruling;
+use crate::judging::Sizes;
+use crate::judging::judge;
 use crate::unit::Unit;
 use packets::End;
 use packets::Header;
 use packets::Path;
-use packets::Reading;
-use packets::TimeReading;
 
 // The unit after the call, what became of it, and how many bytes of the reply buffer are the reply.
 pub struct Answer {
@@ -35,24 +33,14 @@ pub fn take_packet(
     memory: &mut [u8],
     reply: &mut [u8],
 ) -> Answer
-    ensures answers { λ a. ⌜ a ≡ takePacket unit (now (packet .entry)) end link (now (memory .entry)) (now (reply .entry)) .answer ⌝ }
-    ensures stores { λ _. ⌜ now (memory .exit) ≡ takePacket unit (now (packet .entry)) end link (now (memory .entry)) (now (reply .entry)) .memory ⌝ }
-    ensures replies { λ _. ⌜ now (reply .exit) ≡ takePacket unit (now (packet .entry)) end link (now (memory .entry)) (now (reply .entry)) .reply ⌝ }
+    ensures { λ a. ⌜ record { answer = a; memory = now (memory .exit); reply = now (reply .exit) } ≡ takePacket unit (record { packet = now (packet .entry); end = end; link = link }) (record { memory = now (memory .entry); reply = now (reply .entry) }) ⌝ }
 {
-    if !unit.is_usable(memory.len()) {
-        return without_reply(unit, Fate::Unusable);
-    }
-    if !((1 <= link) & (link <= unit.links)) {
-        return without_reply(unit, Fate::NoSuchLink);
-    }
-    let read = packets::read_packet(packet, unit.number);
-    let path = read.path;
-    let reading = read.reading;
-    match reading {
-        Reading::Refused(why) => ended(unit, Fate::Unread(why)),
-        Reading::Time => take_time(unit, packet, end),
-        Reading::Command(h) => take_command(unit, h, path, packet, end, link, memory, reply),
-    }
+    let sizes = Sizes {
+        memory: memory.len(),
+        reply: reply.len(),
+    };
+    let judgement = judge(unit, packet, end, link, sizes);
+    carry_out(judgement, unit, packet, link, memory, reply)
 }
 
 // Takes a Time-Code: its low six bits.
@@ -90,46 +78,55 @@ fn without_reply(unit: Unit, fate: Fate) -> Answer
     }
 }
 
+// Counted, if it is a fate that counts.
 fn ended(unit: Unit, fate: Fate) -> Answer
     ensures { λ a. ⌜ a ≡ withoutReply fate (countedUnit fate unit) ⌝ }
 {
     without_reply(act::count(unit, fate), fate)
 }
 
-fn take_time(unit: Unit, packet: &[u8], end: End) -> Answer
-    ensures { λ a. ⌜ a ≡ takeTime (readTime (now (packet .entry)) end (unit .logical) (unit .number)) unit ⌝ }
-{
-    let reading = packets::read_time(packet, end, unit.logical, unit.number);
-    match reading {
-        TimeReading::ThrownAway => ended(unit, Fate::TimeThrownAway),
-        TimeReading::Taken(time) => {
-            let mut u = unit;
-            u.clock = clock::set_time(unit.clock, time);
-            ended(u, Fate::TimeTaken)
-        }
-    }
-}
-
-// A command: decide, then act, then settle. The reply goes first, since it tells what was there before.
-fn take_command(
+// Does what a packet was judged to come to, whose bytes these are.
+fn carry_out(
+    judgement: Judgement,
     unit: Unit,
-    h: Header,
-    path: Path,
-    packet: &[u8],
-    end: End,
+    bytes: &[u8],
     link: u8,
     memory: &mut [u8],
     reply: &mut [u8],
 ) -> Answer
-    requires { ⌜ (headerSize (h .instruction) ≤ length (now packet)) × (usable unit (length (now memory)) ≡ true) ⌝ }
-    ensures answers { λ a. ⌜ a ≡ takeCommand unit h path (now (packet .entry)) end link (now (memory .entry)) (now (reply .entry)) .answer ⌝ }
-    ensures stores { λ _. ⌜ now (memory .exit) ≡ takeCommand unit h path (now (packet .entry)) end link (now (memory .entry)) (now (reply .entry)) .memory ⌝ }
-    ensures replies { λ _. ⌜ now (reply .exit) ≡ takeCommand unit h path (now (packet .entry)) end link (now (memory .entry)) (now (reply .entry)) .reply ⌝ }
+    requires { ⌜ GrantedBy (judgement .ruling) (length (now bytes)) (length (now memory)) ⌝ }
+    ensures { λ a. ⌜ record { answer = a; memory = now (memory .exit); reply = now (reply .exit) } ≡ done judgement unit (now (bytes .entry)) link (record { memory = now (memory .entry); reply = now (reply .entry) }) ⌝ }
 {
-    let plan = decide(unit, h, path, packet, end, link, reply.len());
+    let path = judgement.path;
+    let ruling = judgement.ruling;
+    match ruling {
+        Ruling::Ends(fate) => ended(unit, fate),
+        Ruling::SetsTime(time) => {
+            let mut u = unit;
+            u.clock = clock::set_time(unit.clock, time);
+            ended(u, Fate::TimeTaken)
+        }
+        Ruling::Planned(h, plan) => follow(plan, unit, h, path, bytes, link, memory, reply),
+    }
+}
+
+// Follows the plan for a command. The reply goes first, since it tells what was there before.
+fn follow(
+    plan: Plan,
+    unit: Unit,
+    h: Header,
+    path: Path,
+    bytes: &[u8],
+    link: u8,
+    memory: &mut [u8],
+    reply: &mut [u8],
+) -> Answer
+    requires { ⌜ Granted (plan .action) (length (now bytes)) (length (now memory)) ⌝ }
+    ensures { λ a. ⌜ record { answer = a; memory = now (memory .exit); reply = now (reply .exit) } ≡ acted plan unit h path (now (bytes .entry)) link (record { memory = now (memory .entry); reply = now (reply .entry) }) ⌝ }
+{
     act::respond(plan, unit, h, path, link, memory, reply);
     let action = plan.action;
-    act::store(action, packet, memory);
+    act::store(action, bytes, memory);
     let fate = plan.fate;
     let changed = act::change(unit, action, h.initiator, path, link);
     Answer {

@@ -2,8 +2,8 @@
 // octets alone. A call takes the unit by value and answers the unit after it; memory and reply buffer are lent. Every public function
 // takes any input, and promises an equation for what it answers and what it leaves.
 //
-// A packet's way: calls reads it and decides, then acts, then settles. decide makes a plan and touches nothing; act has the few functions that
-// touch memory and the reply buffer, and what changes in the unit.
+// A packet's way: it is judged, then done. judging says what it comes to and touches nothing; where it is a command, decide makes the plan. calls follows
+// that: act has the few functions that touch memory and the reply buffer, and what changes in the unit.
 mod act;
 mod calls;
 mod clock;
@@ -11,6 +11,7 @@ mod counters;
 mod decide;
 mod fate;
 mod fields;
+mod judging;
 mod owner;
 mod unit;
 mod whole;
@@ -23,10 +24,16 @@ pub use calls::take_time_code;
 pub use clock::Clock;
 pub use clock::Elapsed;
 pub use clock::Waiting;
+pub use decide::Action;
+pub use decide::Plan;
 pub use fate::Fate;
 pub use fate::Status;
 pub use fate::Told;
 pub use fields::Fields;
+pub use judging::Judgement;
+pub use judging::Ruling;
+pub use judging::Sizes;
+pub use judging::judge;
 pub use owner::Owner;
 pub use unit::Unit;
 pub use windows::Window;

@@ -1,12 +1,11 @@
 -- `records::log::call` meets its contract: by the item; a packet is the part behind seven bytes.
 use native.Mathlib.Omega.{arith}
-use mathlib.Core.Path.{_≡_, refl}
+use mathlib.Core.Path.{_≡_, ap}
 use Prim.Native.Nat.{_+_, _-_}
 use borrow.Author.Needs.{needs}
 use denote.Ref.{now}
-use Rattle.octets.specs.Places.{part}
-use Rattle.unit.specs.Calls.{leaving, takePacket, takeTimeCode, takeTicks}
-use Rattle.records.proofs.RunLaws.{outcome-is}
+use Rattle.unit.specs.Calls.{leaving}
+use Rattle.unit.specs.declared.calls.Answer.{Answer}
 use Rattle.records.proofs.log.call.Statement.{statement}
 use Rattle.records.proofs.log.call.Tie as tie
 
@@ -51,22 +50,21 @@ same-length-2 c = search needs
 
 returns : tie.Need-returns
 returns c =
-    let a = c .before .before .before .before .before .before .before .before .before .before .before .before .before .before .args in
-    let is = c .before .before .before .before .before .before .before .before .before .item .given in
+    let c4 = c .before .before .before .before in
+    let c8 = c4 .before .before .before .before in
+    let is = c8 .before .item .given in
     let n : 7 + is .0 .1 .1 .0 - 7 ≡ is .0 .1 .1 .0 = omega arith in
-    let took = c .before .before .before .before .take-packet .ensures in
-    rw (is .1) (outcome-is (takePacket (a .unit) (part 7 (is .0 .1 .1 .0) (now (a .log))) (is .0 .0) (is .0 .1 .0) (now (a .memory)) (now (a .reply))) _ _ _
-    (rw n at (took .0)) (rw n at (took .1 .0)) (rw n at (took .1 .1)))
+    rw (is .1) (rw n at (c4 .take-packet .ensures))
 
 returns-2 : tie.Need-returns-2
 returns-2 c =
     let a = c .before .before .before .before .before .before .before .args in
-    rw (c .before .before .item2 .given .1) (outcome-is (leaving (takeTimeCode (a .unit) (c .before .before .item2 .given .0 .0)) (now (a .memory)) (now (a .reply))) _ _ _ (c .take-time-code .ensures) refl refl)
+    rw (c .before .before .item2 .given .1) (ap (λ (x : Answer). leaving x (record { memory = now (a .memory); reply = now (a .reply) })) (c .take-time-code .ensures))
 
 returns-3 : tie.Need-returns-3
 returns-3 c =
     let a = c .before .before .before .before .before .before .before .args in
-    rw (c .before .before .item3 .given .1) (outcome-is (leaving (takeTicks (a .unit) (c .before .before .item3 .given .0 .0)) (now (a .memory)) (now (a .reply))) _ _ _ (c .take-ticks .ensures) refl refl)
+    rw (c .before .before .item3 .given .1) (ap (λ (x : Answer). leaving x (record { memory = now (a .memory); reply = now (a .reply) })) (c .take-ticks .ensures))
 
 pub call-spec : {M : Type 1} → statement M
 call-spec =

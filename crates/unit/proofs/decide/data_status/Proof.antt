@@ -26,32 +26,26 @@ returns-3 c =
       lt-ltb _ _ (c .if3 .taken),
     )
 
-crc-of-requires : tie.Need-crc-of-requires
-crc-of-requires c κs = search needs
-
 returns-4 : tie.Need-returns-4
 unfolding dataStatus
 returns-4 c =
-    let c4 = c .before .before .before .before in
     rw (
-      sym (c4 .before .is-eop .ensures) ∙ not-false _ (c4 .if1 .left),
-      le-ltb _ _ (c .before .before .before .if2 .left),
-      le-ltb _ _ (c .before .before .if3 .left),
-      ne-eqb _ _ (λ e. c .if4 .taken (c .before .crc-of .ensures ∙ e)),
+      sym (c .before .before .before .before .is-eop .ensures) ∙ not-false _ (c .before .before .before .if1 .left),
+      le-ltb _ _ (c .before .before .if2 .left),
+      le-ltb _ _ (c .before .if3 .left),
+      ne-eqb _ _ (c .if4 .taken),
     )
 
 returns-5 : tie.Need-returns-5
 unfolding dataStatus
 returns-5 c =
-    let c4 = c .before .before .before .before in
     rw (
-      sym (c4 .before .is-eop .ensures) ∙ not-false _ (c4 .if1 .left),
-      le-ltb _ _ (c .before .before .before .if2 .left),
-      le-ltb _ _ (c .before .before .if3 .left),
-      eq-eqb _ _ (sym (c .before .crc-of .ensures) ∙ c .if4 .left),
+      sym (c .before .before .before .before .is-eop .ensures) ∙ not-false _ (c .before .before .before .if1 .left),
+      le-ltb _ _ (c .before .before .if2 .left),
+      le-ltb _ _ (c .before .if3 .left),
+      eq-eqb _ _ (c .if4 .left),
     )
 
 pub data-status-spec : {M : Type 1} → statement M
 data-status-spec =
-    tie.close
-    (tie.spec is-eop-requires returns returns-2 returns-3 crc-of-requires returns-4 returns-5)
+    tie.close (tie.spec is-eop-requires returns returns-2 returns-3 returns-4 returns-5)

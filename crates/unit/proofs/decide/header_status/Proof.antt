@@ -27,9 +27,8 @@ span-status-requires c κs = search needs
 returns-2 : tie.Need-returns-2
 unfolding headerStatus
 returns-2 c =
-    let c4 = c .before .before .before .before in
     rw (
-      eq-eqb _ _ (c4 .if1 .taken),
+      eq-eqb _ _ (c .before .before .before .before .if1 .taken),
       ← c .before .before .before .opening-status .ensures,
       sym (c .before .before .is-success .ensures) ∙ not-false _ (c .before .if2 .left),
     ) (c .span-status .ensures)
@@ -55,9 +54,8 @@ fields-status-requires c κs = search needs
 returns-4 : tie.Need-returns-4
 unfolding headerStatus
 returns-4 c =
-    let c4 = c .before .before .before .before in
     rw (
-      ne-eqb _ _ (c4 .if1 .left),
+      ne-eqb _ _ (c .before .before .before .before .if1 .left),
       ← c .before .before .before .opening-status2 .ensures,
       sym (c .before .before .is-success2 .ensures) ∙ not-false _ (c .before .if3 .left),
     ) (c .fields-status .ensures)

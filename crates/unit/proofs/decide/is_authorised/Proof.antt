@@ -9,9 +9,6 @@ returns : tie.Need-returns
 unfolding isAuthorised
 returns c = rw (ne-eqb _ _ (c .if1 .taken))
 
-kind-requires : tie.Need-kind-requires
-kind-requires c κs = search needs
-
 span-size-requires : tie.Need-span-size-requires
 span-size-requires c κs = search needs
 
@@ -20,10 +17,7 @@ any-window-requires c κs = search needs
 
 returns-2 : tie.Need-returns-2
 unfolding isAuthorised
-returns-2 c =
-    rw (eq-eqb _ _ (c .before .before .before .if1 .left))
-    (rw (c .before .span-size .ensures, c .before .before .kind .ensures) at (c .any-window .ensures))
+returns-2 c = rw (eq-eqb _ _ (c .before .before .if1 .left)) (rw (c .before .span-size .ensures, c .before .before .before .before .pre) at (c .any-window .ensures))
 
 pub is-authorised-spec : {M : Type 1} → statement M
-is-authorised-spec =
-    tie.close (tie.spec returns kind-requires span-size-requires any-window-requires returns-2)
+is-authorised-spec = tie.close (tie.spec returns span-size-requires any-window-requires returns-2)

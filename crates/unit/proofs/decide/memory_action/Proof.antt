@@ -10,9 +10,6 @@ cast-at c = search needs
 cast-n : tie.Need-cast-n
 cast-n c = search needs
 
-kind-requires : tie.Need-kind-requires
-kind-requires c κs = search needs
-
 enum-told : tie.Need-enum-told
 enum-told c = search needs
 
@@ -38,18 +35,24 @@ write-action-requires : tie.Need-write-action-requires
 write-action-requires c κs = search needs
 
 returns : tie.Need-returns
-returns c = rw (sym (c .before .before .kind .ensures) ∙ c .enum-told .given .1)
+returns c =
+    let c4 = c .before .before .before .before in
+    rw (sym (c4 .before .pre) ∙ c .enum-told .given .1)
 
 returns-2 : tie.Need-returns-2
-returns-2 c = rw (sym (c .before .before .before .kind .ensures) ∙ c .before .enum-told2 .given .1) (c .read-action .ensures)
+returns-2 c =
+    let c4 = c .before .before .before .before in
+    rw (sym (c4 .before .before .pre) ∙ c .before .enum-told2 .given .1) (c .read-action .ensures)
 
 returns-3 : tie.Need-returns-3
-returns-3 c = rw (sym (c .before .before .before .kind .ensures) ∙ c .before .enum-told3 .given .1) (c .rmw-action .ensures)
+returns-3 c =
+    let c4 = c .before .before .before .before in
+    rw (sym (c4 .before .before .pre) ∙ c .before .enum-told3 .given .1) (c .rmw-action .ensures)
 
 returns-4 : tie.Need-returns-4
 returns-4 c =
     let c4 = c .before .before .before .before in
-    rw (sym (c4 .kind .ensures) ∙ c .before .before .enum-told4 .given .1, ← c .before .smaller .ensures) (c .write-action .ensures)
+    rw (sym (c4 .before .before .before .pre) ∙ c .before .before .enum-told4 .given .1, ← c .before .smaller .ensures) (c .write-action .ensures)
 
 pub memory-action-spec : {M : Type 1} → statement M
 memory-action-spec =
@@ -57,7 +60,6 @@ memory-action-spec =
     (tie.spec
     cast-at
     cast-n
-    kind-requires
     enum-told
     enum-told-2
     read-action-requires

@@ -6,15 +6,14 @@ use borrow.Author.Needs.{needs}
 use Rattle.unit.proofs.decide.span_status.Statement.{statement}
 use Rattle.unit.proofs.decide.span_status.Tie as tie
 
-kind-requires : tie.Need-kind-requires
-kind-requires c κs = search needs
-
 is-rmw-requires : tie.Need-is-rmw-requires
 is-rmw-requires c κs = search needs
 
 returns : tie.Need-returns
 unfolding spanStatus
-returns c = rw (rw (c .before .before .before .is-rmw .ensures, c .before .before .before .before .kind .ensures) at (c .if1 .taken))
+returns c =
+    let c4 = c .before .before .before .before in
+    rw (rw (c .before .before .before .is-rmw .ensures, c4 .before .pre) at (c .if1 .taken))
 
 is-authorised-requires : tie.Need-is-authorised-requires
 is-authorised-requires c κs = search needs
@@ -24,7 +23,7 @@ unfolding spanStatus
 returns-2 c =
     let c4 = c .before .before .before .before in
     rw (
-      rw (c4 .before .is-rmw .ensures, c4 .before .before .kind .ensures) at (c .before .before .if1 .left),
+      rw (c4 .before .is-rmw .ensures, c4 .before .before .before .pre) at (c .before .before .if1 .left),
       sym (c .before .is-authorised .ensures) ∙ not-true _ (c .if2 .taken),
     )
 
@@ -40,7 +39,7 @@ returns-3 c =
     let c4 = c .before .before .before .before in
     let c8 = c4 .before .before .before .before in
     rw (
-      rw (c8 .before .is-rmw .ensures, c8 .before .before .kind .ensures) at (c4 .before .before .if1 .left),
+      rw (c8 .before .is-rmw .ensures, c8 .before .before .before .pre) at (c4 .before .before .if1 .left),
       sym (c4 .before .is-authorised .ensures) ∙ not-false _ (c4 .if2 .left),
       rw (c .before .before .before .is-write .ensures, c .before .before .is-verified .ensures) at (c .if3 .taken),
     )
@@ -51,7 +50,7 @@ returns-4 c =
     let c4 = c .before .before .before .before in
     let c8 = c4 .before .before .before .before in
     rw (
-      rw (c8 .before .is-rmw .ensures, c8 .before .before .kind .ensures) at (c4 .before .before .if1 .left),
+      rw (c8 .before .is-rmw .ensures, c8 .before .before .before .pre) at (c4 .before .before .if1 .left),
       sym (c4 .before .is-authorised .ensures) ∙ not-false _ (c4 .if2 .left),
       rw (c .before .before .before .is-write .ensures, c .before .before .is-verified .ensures) at (c .if3 .left),
     )
@@ -60,7 +59,6 @@ pub span-status-spec : {M : Type 1} → statement M
 span-status-spec =
     tie.close
     (tie.spec
-    kind-requires
     is-rmw-requires
     returns
     is-authorised-requires

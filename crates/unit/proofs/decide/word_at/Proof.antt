@@ -35,7 +35,7 @@ returns : tie.Need-returns
 returns c =
     let c4 = c .before .before .before .before in
     c .number4 .ensures
-    ∙ ap number (sym (part-bytes (c4 .before .before .args .at) 3 (now (c4 .before .before .args .packet)) (c4 .before .before .pre)))
+    ∙ ap number (sym (part-bytes (c4 .before .before .args .at) 3 (now (c4 .before .before .args .bytes)) (c4 .before .before .pre)))
 
 pub word-at-spec : {M : Type 1} → statement M
 word-at-spec =
