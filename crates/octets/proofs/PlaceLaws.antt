@@ -11,7 +11,7 @@ use native.Mathlib.Numerals.{add-one}
 use borrow.Author.Tests.{leb-true, le-leb, lt-leb}
 use lib.Dec.{leb}
 use lib.ListN.{length, getD, set, take, drop, replicate, length-replicate, length-append, length-take, length-drop, take-append-drop, drop-of-length-le, List·getD-append}
-use lib.Seq.{ext-getD, paste, paste-suc, drop-set-lt, take-all, take-add, take-append-le, take-append-add, drop-append-le, drop-append-add, drop-length, length-take-le, take-length, take-at, drop-at, drop-drop, getD-take, getD-drop, getD-append-add}
+use lib.Seq.{ext-getD, paste, paste-suc, drop-set-lt, take-all, take-add, take-append-seam, take-append-le, take-append-add, drop-append-seam, drop-append-le, drop-append-add, length-take-le, take-length, take-at, drop-at, drop-drop, getD-take, getD-drop, getD-append-add}
 use Rattle.octets.proofs.Tabulate.{tabulate, length-tabulate}
 use Rattle.octets.proofs.Tabulate.{at as at-place}
 use Rattle.octets.specs.Places.{within, part, placed, copyFits, copied, filled}
@@ -90,26 +90,15 @@ module _ (n : ℕ) (x y : List ℕ) where
           ap (λ (k : ℕ). drop k (x ++ y)) e ∙ drop-append-add x y (n - length x)
           ∙ ap (λ (b : List ℕ). b ++ drop (n - length x) y) (sym (drop-of-length-le x {i = n} (omega (arith, l))))
 
+-- a number that passes the end counts as the end
 module _ (n : ℕ) (x : List ℕ) where
   pub take-min : take (min n (length x)) x ≡ take n x
-  take-min = go (decLe n (length x))
-    where
-      go : Dec (n ≤ length x) → take (min n (length x)) x ≡ take n x
-      go (yes h) = let e : min n (length x) ≡ n = omega (arith, h) in ap (λ (k : ℕ). take k x) e
-      go (no h) =
-          let l = lt-of-not-le h in
-          let e : min n (length x) ≡ length x = omega (arith, l) in
-          ap (λ (k : ℕ). take k x) e ∙ take-length x ∙ sym (take-all n x (omega (arith, l)))
+  take-min =
+      ap (λ (k : ℕ). take k x) (sym (length-take n x)) ∙ ap (take (length (take n x))) (sym (take-append-drop n x)) ∙ take-append-seam (take n x) (drop n x)
 
   pub drop-min : drop (min n (length x)) x ≡ drop n x
-  drop-min = go (decLe n (length x))
-    where
-      go : Dec (n ≤ length x) → drop (min n (length x)) x ≡ drop n x
-      go (yes h) = let e : min n (length x) ≡ n = omega (arith, h) in ap (λ (k : ℕ). drop k x) e
-      go (no h) =
-          let l = lt-of-not-le h in
-          let e : min n (length x) ≡ length x = omega (arith, l) in
-          ap (λ (k : ℕ). drop k x) e ∙ drop-length x ∙ sym (drop-of-length-le x {i = n} (omega (arith, l)))
+  drop-min =
+      ap (λ (k : ℕ). drop k x) (sym (length-take n x)) ∙ ap (drop (length (take n x))) (sym (take-append-drop n x)) ∙ drop-append-seam (take n x) (drop n x)
 
 -- ---- bytes put at a place
 

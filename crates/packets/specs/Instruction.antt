@@ -41,6 +41,7 @@ kindOf code =
     cond (eqb code 0b0010 || eqb code 0b0011) Read
     (cond (eqb code 0b0111) ReadModifyWrite (cond (leb 0b1000 code) Write Unused))
 
+-- Which of the four it is; a write is none of these.
 abbrev pub isUnused : Kind → Bool
 isUnused Unused = true
 isUnused Read = false

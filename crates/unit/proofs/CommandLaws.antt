@@ -1,7 +1,7 @@
 -- The ways that a packet and a command can go: what holds of each of them holds of every one. No memory command changes the unit, no field
 -- command changes memory.
 use mathlib.Core.Path.{_≡_, refl}
-use mathlib.Core.Bool.{Bool, true, false, cond, not}
+use mathlib.Core.Bool.{Bool, true, false, cond}
 use mathlib.Core.List.{List, []}
 use Prim.Native.Nat.{ℕ, _+_}
 use lib.Dec.{eqb}
@@ -32,9 +32,9 @@ use Rattle.unit.specs.Usable.{usableUnit, usable}
 use Rattle.unit.specs.Given.{Arrived, Lent, sizesOf}
 use Rattle.unit.specs.Decide.{headerStatus, allAtHand, dataCount, dataStatusOf}
 use Rattle.unit.specs.Plan.{actionOf, fieldActionOf, unansweredFate, replyCount, plannedFor, decided}
-use Rattle.unit.specs.Judge.{timeRuling, rulingOn, outright, judgedAs, isLink, judged}
+use Rattle.unit.specs.Judge.{isLink}
 use Rattle.unit.specs.Act.{stored, dataFor, repliedTo, withOwner, withFields, withClock, fieldWritten, changed, countedUnit}
-use Rattle.unit.specs.Calls.{Outcome, withoutReply, leaving, acted, doneBy, done, takePacket, smallCall}
+use Rattle.unit.specs.Calls.{Outcome, withoutReply, leaving, acted, done, takePacket, smallCall}
 use Rattle.unit.specs.declared.fate.Status.{Status}
 use Rattle.unit.specs.declared.fate.Fate.{Fate}
 use Rattle.unit.specs.declared.fate.Fate.the-variants.{TimeChanged, Unusable, NoSuchLink, NoRoom, Unread, TimeThrownAway, NotObeyed, Obeyed, TimeTaken, Replied}
@@ -42,9 +42,8 @@ use Rattle.unit.specs.declared.calls.Answer.{Answer}
 use Rattle.unit.specs.declared.decide.Action.{Action}
 use Rattle.unit.specs.declared.decide.Action.the-variants.{Nothing}
 use Rattle.unit.specs.declared.decide.Plan.{Plan}
-use Rattle.unit.specs.declared.judging.Ruling.{Ruling}
-use Rattle.unit.specs.declared.judging.Judgement.{Judgement}
 use Rattle.unit.specs.declared.unit.Unit.{Unit as TheUnit}
+use Rattle.unit.proofs.JudgeLaws.{judged-is}
 use Rattle.unit.proofs.PlanLaws.{action-is, memoryActionIn, fieldActionIn, planned-is, decided-is}
 use Rattle.unit.proofs.MemoryLaws.{fields-store-none}
 
@@ -80,22 +79,6 @@ module _ (u : TheUnit) (p : Arrived) where
     abbrev Both : Answer → Type 0
     Both a = R (leaving a lent) (leaving a (withMemory lent n))
 
-    -- one ruling, carried out on both
-    abbrev Rules : Ruling → Type 0
-    Rules r = R (doneBy r path u (p .packet) (p .link) lent) (doneBy r path u (p .packet) (p .link) (withMemory lent n))
-
-    times-are : (t : TimeReading) → (t ≡ ThrownAway → Both (ended TimeThrownAway)) → ((s : TheTime) → t ≡ Taken s → Both (timed s)) → Rules (timeRuling t)
-    times-are ThrownAway away taken = away refl
-    times-are (Taken s) away taken = taken s refl
-
-    readings-are : (q : Reading) → ((why : Refusal) → q ≡ Refused why → Both (ended (Unread why))) → (q ≡ Time → Rules (timeRuling time))
-        → ((h : Header) → q ≡ Command h → R (takeCommand u h path p lent) (takeCommand u h path p (withMemory lent n)))
-        → Rules (rulingOn q path u p (sizesOf lent))
-    unfolding takeCommand
-    readings-are (Refused why) refused time command = refused why refl
-    readings-are Time refused time command = time refl
-    readings-are (Command h) refused time command = command h refl
-
     abbrev Works : Bool → Type 0
     Works t = usable u (length (lent .memory)) ≡ t
 
@@ -109,17 +92,10 @@ module _ (u : TheUnit) (p : Arrived) where
         → (Works true → Linked true → read ≡ Time → (t : TheTime) → time ≡ Taken t → Both (timed t))
         → (Works true → Linked true → (h : Header) → read ≡ Command h → R (takeCommand u h path p lent) (takeCommand u h path p (withMemory lent n)))
         → R (takePacket u p lent) (takePacket u p (withMemory lent n))
-    unfolding takePacket judged countedFor
-    packets-are one two refused away taken command = rw (← long) (go (usable u (length (lent .memory))) (isLink u (p .link)) refl refl)
-      where
-        ruled : Bool → Bool → Judgement
-        ruled t s = cond (not t) (outright Unusable) (cond (not s) (outright NoSuchLink) (judgedAs (readPacket (p .packet) (u .number)) u p (sizesOf lent)))
-
-        go : (t s : Bool) → Works t → Linked s
-            → R (done (ruled t s) u (p .packet) (p .link) lent) (done (ruled t s) u (p .packet) (p .link) (withMemory lent n))
-        go false s e f = one e
-        go true false e f = two e f
-        go true true e f = readings-are read (refused e f) (λ g. times-are time (away e f g) (taken e f g)) (command e f)
+    unfolding takePacket takeCommand countedFor
+    packets-are one two refused away taken command =
+        rw (← long)
+        (judged-is u p (sizesOf lent) (λ j. R (done j u (p .packet) (p .link) lent) (done j u (p .packet) (p .link) (withMemory lent n))) one two refused away taken command)
 
   -- and on one memory
   module _ (lent : Lent) (Q : Outcome → Type 0) where

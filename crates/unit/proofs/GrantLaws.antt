@@ -14,13 +14,7 @@ use Rattle.packets.specs.declared.instruction.Kind.{Kind}
 use Rattle.packets.specs.declared.instruction.Kind.the-variants.{Unused, Read, ReadModifyWrite, Write}
 use Rattle.packets.specs.declared.header.Header.{Header}
 use Rattle.packets.specs.Reading.{readPacket}
-use Rattle.packets.specs.Time.{readTime}
 use Rattle.packets.specs.declared.path.Path.{Path}
-use Rattle.packets.specs.declared.reading.Packet.{Packet}
-use Rattle.packets.specs.declared.reading.Reading.{Reading}
-use Rattle.packets.specs.declared.reading.Reading.the-variants.{Refused, Time, Command}
-use Rattle.packets.specs.declared.time.TimeReading.{TimeReading}
-use Rattle.packets.specs.declared.time.TimeReading.the-variants.{ThrownAway, Taken}
 use Rattle.packets.proofs.ReadingLaws.{header-whole}
 use Rattle.unit.specs.Some.{some}
 use Rattle.unit.specs.Fate.{isSuccess}
@@ -30,11 +24,9 @@ use Rattle.unit.specs.Usable.{usableUnit, usable}
 use Rattle.unit.specs.Given.{Arrived}
 use Rattle.unit.specs.Decide.{spanSize, isAuthorised, fieldCount, isFieldLength, headerStatus, wantedCount, allAtHand, dataCount, dataStatusOf}
 use Rattle.unit.specs.Plan.{actionOf, fieldActionOf, decided}
-use Rattle.unit.specs.Judge.{timeRuling, rulingOn, outright, judgedAs, isLink, judged}
+use Rattle.unit.specs.Judge.{judged}
 use Rattle.unit.specs.Granted.{Granted, GrantedBy}
-use Rattle.unit.specs.declared.fate.Fate.the-variants.{Unusable, NoSuchLink}
 use Rattle.unit.specs.declared.judging.Sizes.{Sizes}
-use Rattle.unit.specs.declared.judging.Ruling.{Ruling}
 use Rattle.unit.specs.declared.fate.Status.{Status}
 use Rattle.unit.specs.declared.windows.Window.{Window}
 use Rattle.unit.specs.declared.windows.Windows.{Windows}
@@ -42,6 +34,7 @@ use Rattle.unit.specs.declared.windows.Question.the-variants.{EndsPast, 
 use Rattle.unit.specs.declared.decide.Action.the-variants.{Nothing}
 use Rattle.unit.specs.declared.unit.Unit.{Unit as TheUnit}
 use Rattle.unit.proofs.FieldLaws.{named-last}
+use Rattle.unit.proofs.JudgeLaws.{judged-is}
 use Rattle.unit.proofs.PlanLaws.{action-is, memoryActionIn, fieldActionIn, decided-has}
 use Rattle.unit.proofs.DecideLaws.{memory-passed, fields-passed, span-passed, named-passed, names-length, data-passed}
 
@@ -149,26 +142,6 @@ module _ (u : TheUnit) (h : Header) (path : Path) (p : Arrived) (n : ℕ) (works
 
 -- so a judgement allows what it rules
 pub judged-allowed : (u : TheUnit) (p : Arrived) (sizes : Sizes) → GrantedBy (judged u p sizes .ruling) (length (p .packet)) (sizes .memory)
-unfolding judged
-judged-allowed u p sizes = go (usable u (sizes .memory)) (isLink u (p .link)) refl
-  where
-    read : Packet
-    read = readPacket (p .packet) (u .number)
-
-    Holds : Ruling → Type 0
-    Holds r = GrantedBy r (length (p .packet)) (sizes .memory)
-
-    time : (t : TimeReading) → Holds (timeRuling t)
-    time ThrownAway = tt
-    time (Taken t) = tt
-
-    reads : usable u (sizes .memory) ≡ true → (q : Reading) → read .reading ≡ q → Holds (rulingOn q (read .path) u p sizes)
-    reads works (Refused why) is = tt
-    reads works Time is = time (readTime (p .packet) (p .end) (u .logical) (u .number))
-    reads works (Command h) is = granted u h (read .path) p (sizes .memory) works (header-whole (p .packet) (u .number) h is) (sizes .reply)
-
-    go : (t s : Bool) → usable u (sizes .memory) ≡ t
-        → Holds (cond (not t) (outright Unusable) (cond (not s) (outright NoSuchLink) (judgedAs read u p sizes)) .ruling)
-    go false s e = tt
-    go true false e = tt
-    go true true e = reads e (read .reading) refl
+judged-allowed u p sizes =
+    judged-is u p sizes (λ j. GrantedBy (j .ruling) (length (p .packet)) (sizes .memory)) (λ e. tt) (λ e f. tt) (λ e f why g. tt) (λ e f g w. tt) (λ e f g t w. tt)
+    (λ e f h g. granted u h (readPacket (p .packet) (u .number) .path) p (sizes .memory) e (header-whole (p .packet) (u .number) h g) (sizes .reply))

@@ -5,6 +5,7 @@ pub mod FieldLaws
 pub mod DecideLaws
 pub mod ActLaws
 pub mod PlanLaws
+pub mod JudgeLaws
 pub mod GrantLaws
 pub mod MemoryLaws
 pub mod ReplyLaws
