@@ -1,8 +1,7 @@
 //! The bench program (document 01, Bench program).
 
 use crate::answer::{Answer, End};
-use crate::rmap::Window;
-use crate::unit::Unit;
+use crate::unit::{Unit, Window};
 
 const MEMORY_SIZE: u32 = 4096;
 const REPLY_SIZE: usize = 8192;

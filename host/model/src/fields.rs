@@ -1,6 +1,6 @@
 //! The plug-and-play target (document 01, Fields and Owner; 000, 5.3).
 
-use crate::answer::{End, status};
+use crate::answer::{Answer, End, fate, status};
 use crate::instruction::Kind;
 use crate::packet::Command;
 use crate::unit::{ANY_ADDRESS, Owner, Unit};
@@ -25,22 +25,6 @@ const DIVIDER: u32 = 3;
 /// The bits of Link Information that are kept and not made up for each read: the two reserved
 /// bits 21 and 5, reserved bits 15 to 13, and the T and U bits 7 and 6 (000, Table 5-6).
 const LINK_INFORMATION_HELD: u32 = 0x0020_E0E0;
-
-/// The values held for the fields that are not made up from the rest of the unit.
-#[derive(Clone, Debug, Default, PartialEq, Eq)]
-pub struct Fields {
-    pub vendor_and_product: u32,
-    pub version: u32,
-    pub status: u32,
-    pub active_links: u32,
-    pub link_information: u32,
-    pub device_id: u32,
-    pub unit_vendor_and_product: u32,
-    pub unit_serial: u32,
-    pub base_rate: u32,
-    pub rate_range: u32,
-    pub divider: u32,
-}
 
 /// How a field may be changed.
 #[derive(Clone, Copy, PartialEq, Eq)]
@@ -122,7 +106,7 @@ fn words(data: &[u8]) -> impl Iterator<Item = u32> {
 }
 
 /// How many bytes of data the reply carries: a swap gives back the one old value.
-pub(crate) fn reply_data_size(command: &Command, status: u8) -> usize {
+fn reply_data_size(command: &Command, status: u8) -> usize {
     match command.instruction.kind() {
         _ if status != status::OBEYED => 0,
         Kind::Read | Kind::Rmw => 4 * field_count(command) as usize,
@@ -131,7 +115,29 @@ pub(crate) fn reply_data_size(command: &Command, status: u8) -> usize {
 }
 
 impl Unit {
-    pub(crate) fn fields_status(&self, command: &Command, end: End, link: u8) -> u8 {
+    /// Takes a packet of protocol 03.
+    pub(crate) fn take_fields(&mut self, packet: &[u8], end: End, link: u8, reply: &mut [u8]) -> Answer {
+        let command = match Command::read(packet) {
+            Ok(command) => command,
+            Err(fate) => return Answer::bare(fate),
+        };
+        let status = self.fields_status(&command, end, link);
+        let data_size = reply_data_size(&command, status);
+        let size = command.reply_size(data_size);
+        if size > reply.len() {
+            return Answer::bare(fate::REPLY_TOO_LONG);
+        }
+        // The reply first: a swap gives the value it found.
+        command.write_reply(status, data_size, reply, |data| {
+            self.read_fields(&command, link, data);
+        });
+        if status == status::OBEYED {
+            self.change_fields(&command, link);
+        }
+        Answer::with_status(status, size)
+    }
+
+    fn fields_status(&self, command: &Command, end: End, link: u8) -> u8 {
         let header = command.header_status(KEY, [ANY_ADDRESS; 2]);
         if header != status::OBEYED {
             return header;
@@ -164,7 +170,7 @@ impl Unit {
     }
 
     /// Fills a reply's data with the values of the fields the command names.
-    pub(crate) fn read_fields(&self, command: &Command, link: u8, data: &mut [u8]) {
+    fn read_fields(&self, command: &Command, link: u8, data: &mut [u8]) {
         for (field, word) in named_fields(command).zip(data.chunks_exact_mut(4)) {
             let value = self.field(group(command), field, link);
             word.copy_from_slice(&value.to_be_bytes());
@@ -209,7 +215,7 @@ impl Unit {
     }
 
     /// Does what a write or swap without an error asks for.
-    pub(crate) fn change_fields(&mut self, command: &Command, link: u8) {
+    fn change_fields(&mut self, command: &Command, link: u8) {
         match command.instruction.kind() {
             Kind::Write => {
                 for (field, value) in named_fields(command).zip(words(command.data())) {

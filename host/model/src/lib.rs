@@ -2,12 +2,14 @@
 //!
 //! One unit answers RMAP and plug-and-play commands and keeps the time. Each packet is first
 //! decided upon and only then acted on, so that a reply that does not fit (result 3) leaves
-//! everything as it was.
+//! everything as it was. `rmap`, `fields` and `time` have the rules of one protocol each. What they
+//! share stands below them; `call`, which tells their packets apart, stands above.
 
 #![forbid(unsafe_code)]
 
 mod answer;
 pub mod bench;
+mod call;
 mod crc;
 mod fields;
 mod instruction;
@@ -18,9 +20,6 @@ mod unit;
 
 pub use answer::{Answer, End, fate, status};
 pub use crc::crc;
-pub use fields::Fields;
 pub use instruction::{Instruction, Kind};
 pub use packet::{Command, Path};
-pub use rmap::Window;
-pub use time::Time;
-pub use unit::{Counters, Owner, Unit};
+pub use unit::{Counters, Fields, Owner, Time, Unit, Window};

@@ -1,28 +1,14 @@
 //! The RMAP target (document 01, Reading a packet, Span and Effects).
 
-use crate::answer::{End, status};
+use crate::answer::{Answer, End, fate, status};
 use crate::instruction::Kind;
 use crate::packet::Command;
-use crate::unit::{ANY_ADDRESS, Unit};
+use crate::unit::{ANY_ADDRESS, Unit, Window};
 
 /// The longest write that can be verified before it is stored.
 const VERIFY_LIMIT: u32 = 1024;
 
-/// A part of memory that commands may reach, and what they may do there.
-#[derive(Clone, Debug, PartialEq, Eq)]
-pub struct Window {
-    pub start: u32,
-    pub size: u32,
-    pub read: bool,
-    pub write: bool,
-}
-
 impl Window {
-    /// One past the last byte, as a whole number that cannot wrap.
-    pub fn end(&self) -> u64 {
-        u64::from(self.start) + u64::from(self.size)
-    }
-
     fn holds(&self, first: u32, size: u32) -> bool {
         self.start <= first && u64::from(first) + u64::from(size) <= self.end()
     }
@@ -38,7 +24,25 @@ impl Window {
 }
 
 impl Unit {
-    pub(crate) fn rmap_status(&self, command: &Command, end: End) -> u8 {
+    /// Takes a packet of protocol 01.
+    pub(crate) fn take_rmap(&mut self, packet: &[u8], end: End, memory: &mut [u8], reply: &mut [u8]) -> Answer {
+        let command = match Command::read(packet) {
+            Ok(command) => command,
+            Err(fate) => return Answer::bare(fate),
+        };
+        let status = self.rmap_status(&command, end);
+        let data_size = reply_data_size(&command, status);
+        let size = command.reply_size(data_size);
+        if size > reply.len() {
+            return Answer::bare(fate::REPLY_TOO_LONG);
+        }
+        // The reply first: a read-modify-write gives what it read before it stores.
+        command.write_reply(status, data_size, reply, |data| read(&command, memory, data));
+        store(&command, status, memory);
+        Answer::with_status(status, size)
+    }
+
+    fn rmap_status(&self, command: &Command, end: End) -> u8 {
         let header = command.header_status(self.key, [self.logical_address, ANY_ADDRESS]);
         if header != status::OBEYED {
             return header;
@@ -75,7 +79,7 @@ fn span_size(command: &Command) -> u32 {
 }
 
 /// How many bytes of data the reply carries: only what was read, and only without an error.
-pub(crate) fn reply_data_size(command: &Command, status: u8) -> usize {
+fn reply_data_size(command: &Command, status: u8) -> usize {
     match command.instruction.kind() {
         _ if status != status::OBEYED => 0,
         Kind::Read => command.length as usize,
@@ -86,7 +90,7 @@ pub(crate) fn reply_data_size(command: &Command, status: u8) -> usize {
 
 /// Fills a reply's data. The address of a command that reads nothing may lie anywhere; that of
 /// any other here is inside the memory with its whole span.
-pub(crate) fn read(command: &Command, memory: &[u8], data: &mut [u8]) {
+fn read(command: &Command, memory: &[u8], data: &mut [u8]) {
     let first = command.address as usize;
     if data.is_empty() {
         return;
@@ -99,7 +103,7 @@ pub(crate) fn read(command: &Command, memory: &[u8], data: &mut [u8]) {
 }
 
 /// Stores what the command leaves in memory, given its status.
-pub(crate) fn store(command: &Command, status: u8, memory: &mut [u8]) {
+fn store(command: &Command, status: u8, memory: &mut [u8]) {
     match (command.instruction.kind(), status) {
         (Kind::Rmw, status::OBEYED) => modify(command, memory),
         (Kind::Write, status::OBEYED) => write(command, memory),

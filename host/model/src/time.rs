@@ -2,18 +2,10 @@
 
 use crate::answer::{End, fate};
 use crate::crc::crc;
-use crate::unit::{ANY_ADDRESS, Unit};
+use crate::unit::{ANY_ADDRESS, TIME_BOUND, Time, Unit};
 
-/// Elapsed times are 56 bits: seconds in the upper 32, their fraction in the lower 24.
-pub(crate) const TIME_BOUND: u64 = 1 << 56;
+/// A second of an elapsed time: its fraction is 24 bits.
 const SECOND: u64 = 1 << 24;
-
-/// A time and the first byte of its P-field, which holds the epoch code.
-#[derive(Clone, Copy, Debug, Default, PartialEq, Eq)]
-pub struct Time {
-    pub epoch: u8,
-    pub t: u64,
-}
 
 impl Unit {
     /// Takes a packet of the time protocol and gives its fate.

@@ -1,16 +1,48 @@
-//! The unit (document 01, The terminal and its neighbours, and Numbers a caller gets).
+//! What a unit holds, and whether it is usable (document 01, The terminal and its neighbours, and
+//! Numbers a caller gets).
 
-use crate::answer::{Answer, End, fate, status};
-use crate::fields::{self, Fields};
-use crate::packet::{Command, Path};
-use crate::rmap::{self, Window};
-use crate::time::{TIME_BOUND, Time};
+use crate::packet::Path;
 
 /// The logical address every target answers to (002, 5.2.1).
 pub(crate) const ANY_ADDRESS: u8 = 0xFE;
 
+/// Elapsed times are 56 bits: seconds in the upper 32, their fraction in the lower 24.
+pub(crate) const TIME_BOUND: u64 = 1 << 56;
+
 const MEMORY_LIMIT: usize = 65_536;
 const WINDOW_LIMIT: usize = 16;
+
+/// A part of memory that commands may reach, and what they may do there.
+#[derive(Clone, Debug, PartialEq, Eq)]
+pub struct Window {
+    pub start: u32,
+    pub size: u32,
+    pub read: bool,
+    pub write: bool,
+}
+
+impl Window {
+    /// One past the last byte, as a whole number that cannot wrap.
+    pub fn end(&self) -> u64 {
+        u64::from(self.start) + u64::from(self.size)
+    }
+}
+
+/// The values held for the fields that are not made up from the rest of the unit.
+#[derive(Clone, Debug, Default, PartialEq, Eq)]
+pub struct Fields {
+    pub vendor_and_product: u32,
+    pub version: u32,
+    pub status: u32,
+    pub active_links: u32,
+    pub link_information: u32,
+    pub device_id: u32,
+    pub unit_vendor_and_product: u32,
+    pub unit_serial: u32,
+    pub base_rate: u32,
+    pub rate_range: u32,
+    pub divider: u32,
+}
 
 /// Who claimed the unit: the same initiator, reply path and link make the same owner.
 #[derive(Clone, Copy, Debug, Default, PartialEq, Eq)]
@@ -18,6 +50,13 @@ pub struct Owner {
     pub initiator: u8,
     pub path: Path,
     pub link: u8,
+}
+
+/// A time and the first byte of its P-field, which holds the epoch code.
+#[derive(Clone, Copy, Debug, Default, PartialEq, Eq)]
+pub struct Time {
+    pub epoch: u8,
+    pub t: u64,
 }
 
 /// How often each fate from 11 to 20 came, in their order, and how often any of them.
@@ -61,64 +100,6 @@ impl Unit {
         }
     }
 
-    /// Takes the bytes of a packet that came on `link` and ended with `end`.
-    pub fn take_packet(&mut self, packet: &[u8], end: End, link: u8, memory: &mut [u8], reply: &mut [u8]) -> Answer {
-        if !self.is_sound() || !self.suits(memory.len()) {
-            return Answer::bare(fate::UNUSABLE);
-        }
-        if link == 0 || link > self.link_count {
-            return Answer::bare(fate::NO_SUCH_LINK);
-        }
-        let answer = match packet.get(1) {
-            None => Answer::bare(fate::INCOMPLETE),
-            Some(0x00) => Answer::bare(fate::EXTENDED_PROTOCOL),
-            Some(0x01) => self.take_rmap(packet, end, memory, reply),
-            Some(0x03) => self.take_fields(packet, end, link, reply),
-            Some(&number) if number == self.time_number => Answer::bare(self.take_time(packet, end)),
-            Some(_) => Answer::bare(fate::UNKNOWN_PROTOCOL),
-        };
-        self.count(answer.fate);
-        answer
-    }
-
-    fn take_rmap(&mut self, packet: &[u8], end: End, memory: &mut [u8], reply: &mut [u8]) -> Answer {
-        let command = match Command::read(packet) {
-            Ok(command) => command,
-            Err(fate) => return Answer::bare(fate),
-        };
-        let status = self.rmap_status(&command, end);
-        let data_size = rmap::reply_data_size(&command, status);
-        let size = command.reply_size(data_size);
-        if size > reply.len() {
-            return Answer::bare(fate::REPLY_TOO_LONG);
-        }
-        // The reply first: a read-modify-write gives what it read before it stores.
-        command.write_reply(status, data_size, reply, |data| rmap::read(&command, memory, data));
-        rmap::store(&command, status, memory);
-        Answer::with_status(status, size)
-    }
-
-    fn take_fields(&mut self, packet: &[u8], end: End, link: u8, reply: &mut [u8]) -> Answer {
-        let command = match Command::read(packet) {
-            Ok(command) => command,
-            Err(fate) => return Answer::bare(fate),
-        };
-        let status = self.fields_status(&command, end, link);
-        let data_size = fields::reply_data_size(&command, status);
-        let size = command.reply_size(data_size);
-        if size > reply.len() {
-            return Answer::bare(fate::REPLY_TOO_LONG);
-        }
-        // The reply first: a swap gives the value it found.
-        command.write_reply(status, data_size, reply, |data| {
-            self.read_fields(&command, link, data);
-        });
-        if status == status::OBEYED {
-            self.change_fields(&command, link);
-        }
-        Answer::with_status(status, size)
-    }
-
     /// The causes of result 1 that do not lie in the memory lent.
     pub(crate) fn is_sound(&self) -> bool {
         self.windows.len() <= WINDOW_LIMIT
@@ -132,16 +113,7 @@ impl Unit {
     }
 
     /// The two causes that do.
-    fn suits(&self, memory: usize) -> bool {
+    pub(crate) fn suits(&self, memory: usize) -> bool {
         (1..=MEMORY_LIMIT).contains(&memory) && self.windows.iter().all(|window| window.end() <= memory as u64)
-    }
-
-    /// Counts a fate from 11 to 20; the lower ones leave no trace.
-    fn count(&mut self, fate: u8) {
-        if let 11..=20 = fate {
-            let counter = &mut self.counters.fates[usize::from(fate - 11)];
-            *counter = counter.wrapping_add(1);
-            self.counters.total = self.counters.total.wrapping_add(1);
-        }
     }
 }
