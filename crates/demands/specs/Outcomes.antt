@@ -4,7 +4,7 @@ use mathlib.Core.Path.{_≡_}
 use mathlib.Core.List.{List}
 use Prim.Native.Nat.{ℕ}
 use denote.Ref.{now}
-use Rattle.demands.specs.Rows.{first, fourth, fifth, sixth}
+use Rattle.demands.specs.Rows.{first, second, fourth, fifth, sixth}
 use Rattle.octets.proofs.crc_of.Reads.{Asked as asked·crc_of, Learnt as promise·crc_of}
 use Rattle.octets.proofs.crc_from.Reads.{Asked as asked·crc_from, Learnt as promise·crc_from}
 use Rattle.octets.proofs.read_number.Reads.{Asked as asked·read_number, Learnt as promise·read_number}
@@ -43,6 +43,8 @@ use Rattle.packets.proofs.read_packet.Reads.{Asked as asked·read_packet, Learn
 use Rattle.packets.proofs.reply_length.Reads.{Asked as asked·reply_length, Learnt as promise·reply_length}
 use Rattle.packets.proofs.write_reply.Reads.{Asked as asked·write_reply, Learnt as promise·write_reply}
 use Rattle.packets.proofs.write_repeated_reply.Reads.{Asked as asked·write_repeated_reply, Learnt as promise·write_repeated_reply}
+use Rattle.packets.proofs.write_reply_around.Reads.{Asked as asked·write_reply_around, Learnt as promise·write_reply_around}
+use Rattle.packets.proofs.data_place.Reads.{Asked as asked·data_place, Learnt as promise·data_place}
 use Rattle.packets.proofs.time.TimeReading.number.Reads.{Asked as asked·TimeReading·number, Learnt as promise·TimeReading·number}
 use Rattle.packets.proofs.read_time.Reads.{Asked as asked·read_time, Learnt as promise·read_time}
 use Rattle.unit.proofs.fate.Status.byte.Reads.{Asked as asked·Status·byte, Learnt as promise·Status·byte}
@@ -58,6 +60,13 @@ use Rattle.records.proofs.bench.Stage.is_over.Reads.{Asked as asked·Stage·is_
 use Rattle.records.proofs.start.Reads.{Asked as asked·start, Learnt as promise·start}
 use Rattle.records.proofs.run.Reads.{Asked as asked·run, Learnt as promise·run}
 use Rattle.terminal.proofs.terminal_crc.Reads.{Asked as asked·terminal_crc, Learnt as promise·terminal_crc}
+use Rattle.script.proofs.line_size.Reads.{Asked as asked·line_size, Learnt as promise·line_size}
+use Rattle.script.proofs.runnable.Reads.{Asked as asked·runnable, Learnt as promise·runnable}
+use Rattle.script.proofs.field.Reads.{Asked as asked·field, Learnt as promise·field}
+use Rattle.script.proofs.rest.Reads.{Asked as asked·rest, Learnt as promise·rest}
+use Rattle.script.proofs.number.Reads.{Asked as asked·number, Learnt as promise·number}
+use Rattle.script.proofs.byte.Reads.{Asked as asked·byte, Learnt as promise·byte}
+use Rattle.script.proofs.bytes.Reads.{Asked as asked·bytes, Learnt as promise·bytes}
 
 -- What a function asks and promises, as the checker makes it of the function's own `requires` and `ensures`: a claim on lifetimes and arguments; and one on
 -- lifetimes, arguments, result, and what each argument is at exit. That none is left out here the gate looks up (tools/promises).
@@ -70,6 +79,11 @@ AsksNothing {K = K} {A = A} asked = (k : K) (a : A k) → asked k a
 abbrev pub OneResult : {K : Type 0} {A Z E : K → Type 0} → ((k : K) → A k → Z k → E k → Type 0) → Type 0
 OneResult {K = K} {A = A} {Z = Z} {E = E} promise =
     (k : K) (a : A k) (z z′ : Z k) (e e′ : E k) → promise k a z e → promise k a z′ e′ → z ≡ z′
+
+-- Where the result is a part of what was lent, two such parts have the same bytes.
+abbrev pub OnePart : {K : Type 0} {A Z E : K → Type 0} → ((k : K) → A k → Z k → E k → Type 0) → ((k : K) → Z k → List ℕ) → Type 0
+OnePart {K = K} {A = A} {Z = Z} {E = E} promise bytes =
+    (k : K) (a : A k) (z z′ : Z k) (e e′ : E k) → promise k a z e → promise k a z′ e′ → bytes k z ≡ bytes k z′
 
 -- And two contents of a lent buffer at exit.
 abbrev pub OneExit : {K : Type 0} {A Z E : K → Type 0} → ((k : K) → A k → Z k → E k → Type 0) → ((k : K) → E k → List ℕ) → Type 0
@@ -125,6 +139,9 @@ PacketsDetermined =
     × (OneExit promise·write_reply (λ κs e. now (fifth e)))  -- the reply buffer
     × (OneResult promise·write_repeated_reply)
     × (OneExit promise·write_repeated_reply (λ κs e. now (sixth e)))  -- the reply buffer
+    × (OneResult promise·write_reply_around)
+    × (OneExit promise·write_reply_around (λ κs e. now (fifth e)))  -- the reply buffer
+    × (OneResult promise·data_place)
     × (OneResult promise·TimeReading·number)
     × (OneResult promise·read_time)
 
@@ -153,6 +170,17 @@ RecordsDetermined =
 
 abbrev pub TerminalDetermined : Type 0
 TerminalDetermined = (OneResult promise·terminal_crc)
+
+abbrev pub ScriptDetermined : Type 0
+ScriptDetermined =
+    (OneResult promise·line_size)
+    × (OneResult promise·runnable)
+    × (OnePart promise·field (λ κs z. now z))
+    × (OnePart promise·rest (λ κs z. now z))
+    × (OneResult promise·number)
+    × (OneResult promise·byte)
+    × (OneResult promise·bytes)
+    × (OneExit promise·bytes (λ κs e. now (second e)))  -- the buffer
 
 abbrev pub OctetsAskNothing : Type 0
 OctetsAskNothing =
@@ -197,6 +225,8 @@ PacketsAskNothing =
     × AsksNothing asked·reply_length
     × AsksNothing asked·write_reply
     × AsksNothing asked·write_repeated_reply
+    × AsksNothing asked·write_reply_around
+    × AsksNothing asked·data_place
     × AsksNothing asked·TimeReading·number
     × AsksNothing asked·read_time
 
@@ -221,3 +251,13 @@ RecordsAskNothing =
 abbrev pub TerminalAsksNothing : Type 0
 TerminalAsksNothing =
     AsksNothing asked·terminal_crc
+
+abbrev pub ScriptAsksNothing : Type 0
+ScriptAsksNothing =
+    AsksNothing asked·line_size
+    × AsksNothing asked·runnable
+    × AsksNothing asked·field
+    × AsksNothing asked·rest
+    × AsksNothing asked·number
+    × AsksNothing asked·byte
+    × AsksNothing asked·bytes

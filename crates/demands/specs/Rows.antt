@@ -2,6 +2,9 @@
 abbrev pub first : {A B : Type 0} → A × B → A
 first row = row .0
 
+abbrev pub second : {A B C : Type 0} → A × (B × C) → B
+second row = row .1 .0
+
 abbrev pub fourth : {A B C D E : Type 0} → A × (B × (C × (D × E))) → D
 fourth row = row .1 .1 .1 .0
 

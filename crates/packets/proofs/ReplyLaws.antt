@@ -1,14 +1,15 @@
 -- Laws of replies: how long they are, and what stands in a buffer after their pieces were put into it.
 use mathlib.Core.Path.{_≡_, refl, sym, ap, _∙_}
-use mathlib.Core.Bool.{Bool, true, false, cond, _&&_}
+use mathlib.Core.Bool.{Bool, true, false, cond, not, _&&_}
 use mathlib.Core.Logic.{inr}
 use mathlib.Core.List.{List, [], _∷_, _++_, append-assoc, append-nil}
-use Prim.Native.Nat.{ℕ, _+_, _-_, _^_, _<_, _≤_}
+use Prim.Native.Nat.{ℕ, _+_, _-_, _^_, _<_, _≤_, min}
 use native.Mathlib.Omega.{arith}
-use native.Mathlib.Nat.{zero-add}
-use borrow.Author.Tests.{ltb-true, leb-true}
-use lib.Dec.{leb, ltb}
-use lib.ListN.{length, take, replicate, length-append, length-replicate}
+use native.Mathlib.Decide.{decLe}
+use native.Mathlib.Nat.{lt-of-not-le, zero-add}
+use borrow.Author.Tests.{ltb-true, leb-true, lt-leb, not-true}
+use lib.Dec.{eqb, leb, ltb}
+use lib.ListN.{length, take, replicate, length-append, length-replicate, length-take, length-drop}
 use lib.Seq.{take-length}
 use Rattle.octets.specs.Places.{part, placed, copied, filled}
 use Rattle.octets.specs.Numbers.{bytesOf}
@@ -17,7 +18,7 @@ use Rattle.octets.proofs.PlaceLaws.{length-placed, length-part, part-placed, pa
 use Rattle.octets.proofs.PlaceLaws.{copied-done, copied-none, length-copied, filled-done, filled-none, length-filled, placed-if-length, first-true, second-true}
 use Rattle.packets.specs.Instruction.{isWrite}
 use Rattle.packets.specs.Path.{pathBytes}
-use Rattle.packets.specs.Reply.{replyStart, replyHead, replyWith, carriesData, carried, carriedCount, replyOf, replyLength, replyFits, replied}
+use Rattle.packets.specs.Reply.{replyStart, replyHead, replyWith, dataPlace, carriesData, carried, carriedCount, replyOf, replyLength, replyFits, replied}
 use Rattle.packets.specs.declared.path.Path.{Path}
 use Rattle.packets.specs.declared.header.Header.{Header}
 use Rattle.packets.proofs.PathLaws.{path-part}
@@ -109,6 +110,10 @@ carried-part : (t : Bool) (d : List ℕ) → part 0 (cond t (length d) 0) d ≡ 
 carried-part true d = take-length d
 carried-part false d = refl
 
+carried-there : (t : Bool) (at n : ℕ) (out : List ℕ) → part at (cond t n 0) out ≡ cond t (part at n out) []
+carried-there true at n out = refl
+carried-there false at n out = refl
+
 carried-repeated : (t : Bool) (n b : ℕ) → replicate (cond t n 0) b ≡ cond t (replicate n b) []
 carried-repeated true n b = refl
 carried-repeated false n b = refl
@@ -146,6 +151,32 @@ length-replied k h status d out =
     (second-true (ltb (carriedCount h status (length d)) (256 ^ 3)) (leb (replyLength k h status (length d)) (length out)) e) in
     omega (arith, length-reply k h status d))
 
+never : (a : Bool) → (a && false) ≡ false
+never true = refl
+never false = refl
+
+-- where not all of n bytes are in the place of the data, a reply with n of them has no room, and neither has one with those that are there
+pub around-fits : (k : Path) (h : Header) (status n : ℕ) (out : List ℕ)
+    → replyFits k h status (length (part (dataPlace k) n out)) (length out) ≡ replyFits k h status n (length out)
+unfolding replyLength
+around-fits k h status n out = go (isWrite (h .instruction)) (eqb status 0) (decLe (dataPlace k + n) (length out))
+  where
+    there : ℕ
+    there = length (part (dataPlace k) n out)
+
+    Fits : Bool → Bool → ℕ → Bool
+    Fits w z count = ltb (cond (not w && z) count 0) (256 ^ 3) && leb (length (pathBytes k) + cond w 8 (13 + cond (not w && z) count 0)) (length out)
+
+    go : (w z : Bool) → Dec (dataPlace k + n ≤ length out) → Fits w z there ≡ Fits w z n
+    go true z d = refl
+    go false false d = refl
+    go false true (yes d) = rw (length-part (dataPlace k) n out d)
+    go false true (no d) =
+        let less = lt-of-not-le d in
+        let l : there ≡ min n (length out - dataPlace k) = simp (length-take, length-drop) in
+        rw (lt-leb (length (pathBytes k) + (13 + there)) (length out) (omega (arith, l, less)), lt-leb (length (pathBytes k) + (13 + n)) (length out) (omega (arith, less)))
+        (never (ltb there (256 ^ 3)) ∙ sym (never (ltb n (256 ^ 3))))
+
 -- ---- the writer: m bytes of data are carried, of n; t is its test of them
 
 module _ (k : Path) (h : Header) (status n m : ℕ) (counts : m ≡ carriedCount h status n) where
@@ -170,8 +201,18 @@ module _ (k : Path) (h : Header) (status n m : ℕ) (counts : m ≡ carriedCount
     unfolding replied
     reply-refused d l e = (sym e ∙ reply-answer, rw (l, sym reply-answer ∙ e))
 
+    -- the data are in their place, and all else goes around them
+    pub around-refused : t ≡ false → (false ≡ replyFits k h status n (length out)) × (out ≡ replied k h status (part (dataPlace k) n out) out)
+    unfolding replied
+    around-refused e = (sym e ∙ reply-answer, rw (around-fits k h status n out, sym reply-answer ∙ e))
+
+    pub reply-around : {then : List ℕ} → t ≡ true → then ≡ placed 0 (replyWith k h status (part (dataPlace k) m out)) out
+        → (true ≡ replyFits k h status n (length out)) × (then ≡ replied k h status (part (dataPlace k) n out) out)
+    unfolding replied
+    reply-around e q = (sym e ∙ reply-answer, rw (around-fits k h status n out, sym reply-answer ∙ e) (q ∙ rw (counts, carried-there (carriesData h status) (dataPlace k) n out)))
+
     -- the carried data were put into their place, if there is one, and then all else around them
-    reply-done : (d : List ℕ) {first then : List ℕ} (at : ℕ) → length d ≡ n → t ≡ true → at ≡ length (pathBytes k) + 12
+    reply-done : (d : List ℕ) {first then : List ℕ} (at : ℕ) → length d ≡ n → t ≡ true → at ≡ dataPlace k
         → (m ≡ 0 → first ≡ out) → (at + m ≤ length out → first ≡ placed at (carried h status d) out)
         → then ≡ placed 0 (replyWith k h status (part at m first)) first → then ≡ replied k h status d out
     unfolding replied
@@ -198,25 +239,58 @@ module _ (k : Path) (h : Header) (status n m : ℕ) (counts : m ≡ carriedCount
             rw (there, f) (placed-hides 0 at (replyWith k h status c) c out (omega arith) (omega (arith, size)) (omega (arith, size)))
 
     -- the same, where a copy or a fill put them there
-    pub reply-copied : (d : List ℕ) {first then : List ℕ} (size : ℕ) → length d ≡ n → t ≡ true → size ≡ length (pathBytes k)
-        → first ≡ copied d 0 m out (size + 12) → then ≡ placed 0 (replyWith k h status (part (length (pathBytes k) + 12) m first)) first
+    pub reply-copied : (d : List ℕ) {first then : List ℕ} (at : ℕ) → length d ≡ n → t ≡ true → at ≡ dataPlace k
+        → first ≡ copied d 0 m out at → then ≡ placed 0 (replyWith k h status (part (dataPlace k) m first)) first
         → (true ≡ replyFits k h status n (length out)) × (then ≡ replied k h status d out)
-    reply-copied d {first} {then} size l e z p q =
-        let at = size + 12 in
+    reply-copied d {first} {then} at l e z p q =
         let most = carried-most (carriesData h status) n in
         let whole : part 0 m d ≡ carried h status d = rw (counts, ← l) (carried-part (carriesData h status) d) in
         let some : at + m ≤ length out → first ≡ placed at (carried h status d) out = λ r. p ∙ copied-done d 0 m out at (omega arith) r ∙ ap (λ (x : List ℕ). placed at x out) whole in (
           sym e ∙ reply-answer,
-          reply-done d at l e (ap (λ (x : ℕ). x + 12) z) (λ y. p ∙ copied-none d 0 m out at y) some (rw z q),
+          reply-done d at l e z (λ y. p ∙ copied-none d 0 m out at y) some (rw z q),
         )
 
-    pub reply-filled : (b : ℕ) {first then : List ℕ} (size : ℕ) → t ≡ true → size ≡ length (pathBytes k)
-        → first ≡ filled out (size + 12) m b → then ≡ placed 0 (replyWith k h status (part (length (pathBytes k) + 12) m first)) first
+    pub reply-filled : (b : ℕ) {first then : List ℕ} (at : ℕ) → t ≡ true → at ≡ dataPlace k
+        → first ≡ filled out at m b → then ≡ placed 0 (replyWith k h status (part (dataPlace k) m first)) first
         → (true ≡ replyFits k h status n (length out)) × (then ≡ replied k h status (replicate n b) out)
-    reply-filled b {first} {then} size e z p q =
-        let at = size + 12 in
+    reply-filled b {first} {then} at e z p q =
         let whole : replicate m b ≡ carried h status (replicate n b) = rw counts (carried-repeated (carriesData h status) n b) in
         let some : at + m ≤ length out → first ≡ placed at (carried h status (replicate n b)) out = λ r. p ∙ filled-done out at m b r ∙ ap (λ (x : List ℕ). placed at x out) whole in (
           sym e ∙ reply-answer,
-          reply-done (replicate n b) at (length-replicate n b) e (ap (λ (x : ℕ). x + 12) z) (λ y. p ∙ filled-none out at m b y) some (rw z q),
+          reply-done (replicate n b) at (length-replicate n b) e z (λ y. p ∙ filled-none out at m b y) some (rw z q),
         )
+
+-- ---- a reply that carries n bytes of data, and has room with them
+
+module _ (k : Path) (h : Header) (status n : ℕ) (out : List ℕ) (carries : carriesData h status ≡ true)
+    (fits : replyFits k h status n (length out) ≡ true) where
+  carrying : replyLength k h status n ≡ dataPlace k + n + 1
+  unfolding replyLength
+  carrying =
+      let w = isWrite (h .instruction) in
+      rw (carries, not-true w (first-true (not w) (eqb status 0) carries)) (omega arith)
+
+  pub carried-few : n < 256 ^ 3
+  carried-few =
+      let few = ltb (carriedCount h status n) (256 ^ 3) in
+      rw carries at (ltb-true (carriedCount h status n) (256 ^ 3) (first-true few (leb (replyLength k h status n) (length out)) fits))
+
+  pub carried-room : dataPlace k + n < length out
+  carried-room =
+      let few = ltb (carriedCount h status n) (256 ^ 3) in
+      let r = leb-true (replyLength k h status n) (length out) (second-true few (leb (replyLength k h status n) (length out)) fits) in
+      omega (arith, r, carrying)
+
+  -- the data were put into their place, and then the reply around them
+  pub gathered-reply : (d : List ℕ) {first then : List ℕ} → length d ≡ n → first ≡ placed (dataPlace k) d out
+      → then ≡ replied k h status (part (dataPlace k) n first) first → then ≡ replied k h status d out
+  unfolding replied
+  gathered-reply d {first} {then} l p q =
+      let at = dataPlace k in
+      let room : at + length d ≤ length out = omega (arith, l, carried-room) in
+      let there : part at n first ≡ d = ap (part at n) p ∙ rw (← l) (part-placed at d out room) in
+      let same : length first ≡ length out = ap length p ∙ length-placed at d out room in
+      let long : length (replyOf k h status d) ≡ at + n + 1 = length-reply k h status d ∙ ap (replyLength k h status) l ∙ carrying in
+      q
+      ∙ rw (there, same, l, fits, p)
+      (placed-hides 0 at (replyOf k h status d) d out (omega arith) (omega (arith, l, long)) (omega (arith, l, long, carried-room)))

@@ -27,6 +27,10 @@ replyHead h status count =
 unfoldable pub replyWith : Path → Header → ℕ → List ℕ → List ℕ
 replyWith k h status d = pathBytes k ++ replyHead h status (length d) ++ cond (isWrite (h .instruction)) [] (withCrc d)
 
+-- Where the data stand in it: behind the path and the twelve bytes of a header that tells their length.
+abbrev pub dataPlace : Path → ℕ
+dataPlace k = length (pathBytes k) + 12
+
 -- Data follow only without the write bit and with status 0: errors carry none.
 abbrev pub carriesData : Header → ℕ → Bool
 carriesData h status = not (isWrite (h .instruction)) && eqb status 0

@@ -10,7 +10,7 @@ ghost use Rattle.octets.specs.Numbers.{bytesOf};
 ghost use Rattle.octets.specs.Places.{part, placed};
 ghost use Rattle.packets.specs.Instruction.{isWrite};
 ghost use Rattle.packets.specs.Path.{pathBytes};
-ghost use Rattle.packets.specs.Reply.{replyStart, replyHead, replyWith, carriesData, carriedCount};
+ghost use Rattle.packets.specs.Reply.{replyStart, replyHead, replyWith, dataPlace, carriesData, carriedCount};
 ghost use Rattle.packets.specs.Reply.{replyLength, replyFits, replied};
 use crate::header::Header;
 use crate::path::Path;
@@ -26,7 +26,7 @@ pub fn write_reply(path: Path, header: Header, status: u8, bytes: &[u8], out: &m
     if !fits(path, header, status, n, out.len()) {
         return false;
     }
-    octets::copy_part(bytes, 0, n, out, path.size() + 12);
+    octets::copy_part(bytes, 0, n, out, data_place(path));
     surround(path, header, status, n as u32, out);
     true
 }
@@ -47,9 +47,35 @@ pub fn write_repeated_reply(
     if !fits(path, header, status, n, out.len()) {
         return false;
     }
-    octets::fill(out, path.size() + 12, n, byte);
+    octets::fill(out, data_place(path), n, byte);
     surround(path, header, status, n as u32, out);
     true
+}
+
+// The same where the data, `count` bytes, are in their place in the buffer already.
+pub fn write_reply_around(
+    path: Path,
+    header: Header,
+    status: u8,
+    count: u32,
+    out: &mut [u8],
+) -> bool
+    ensures answers { λ t. ⌜ t ≡ replyFits path header status count (length (now (out .entry))) ⌝ }
+    ensures leaves { λ _. ⌜ now (out .exit) ≡ replied path header status (part (dataPlace path) count (now (out .entry))) (now (out .entry)) ⌝ }
+{
+    let n = carried_count(header, status, count as usize);
+    if !fits(path, header, status, n, out.len()) {
+        return false;
+    }
+    surround(path, header, status, n as u32, out);
+    true
+}
+
+// Their place: where the data of a reply stand, if it carries any.
+pub fn data_place(path: Path) -> usize
+    ensures { λ at. ⌜ at ≡ dataPlace path ⌝ }
+{
+    path.size() + 12
 }
 
 // How long the reply is, where `count` bytes of data go with it if it carries data.
@@ -93,7 +119,7 @@ fn fits(path: Path, header: Header, status: u8, n: usize, room: usize) -> bool
 // command with the write bit ends with its header.
 fn surround(path: Path, header: Header, status: u8, count: u32, out: &mut [u8])
     requires { ⌜ length (pathBytes path) + cond (isWrite (header .instruction)) 8 (13 + count) ≤ length (now out) ⌝ }
-    ensures { λ _. ⌜ now (out .exit) ≡ placed 0 (replyWith path header status (part (length (pathBytes path) + 12) count (now (out .entry)))) (now (out .entry)) ⌝ }
+    ensures { λ _. ⌜ now (out .exit) ≡ placed 0 (replyWith path header status (part (dataPlace path) count (now (out .entry)))) (now (out .entry)) ⌝ }
 {
     let at = write_head(path, header, status, count, out);
     if header.instruction.is_write() {

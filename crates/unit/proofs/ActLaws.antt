@@ -1,13 +1,13 @@
--- Laws of what is done: bytes combined, the last of bytes.
+-- Laws of what is done: bytes combined, a byte to be repeated, the last of bytes.
 use mathlib.Core.Path.{_≡_, refl, sym, _∙_, ap}
 use mathlib.Core.List.{List, [], _∷_, _++_}
 use Prim.Native.Nat.{ℕ, zero, suc, _+_, _-_, _<_, _≤_}
 use native.Mathlib.Omega.{arith}
-use lib.ListN.{length, getD, take, drop}
+use lib.ListN.{length, getD, take, drop, replicate}
 use lib.Seq.{paste, paste-suc, length-take-le, drop-at}
 use native.Mathlib.Numerals.{add-one}
-use Rattle.octets.specs.Places.{part, placed, copied}
-use Rattle.octets.proofs.PlaceLaws.{length-part, part-at, part-split, placed-after, placed-none, copied-done}
+use Rattle.octets.specs.Places.{part, placed}
+use Rattle.octets.proofs.PlaceLaws.{length-part, length-placed, part-at, part-bytes, part-placed, part-split, placed-after, placed-none}
 use lib.ListN.{set}
 use Rattle.unit.specs.Act.{combineByte, combined, lastOf}
 
@@ -55,14 +55,39 @@ module _ (p m : List ℕ) (from count at : ℕ) (room : at + count ≤ length m)
       ap (λ (s : List ℕ). getD s (at + i) 0) e
       ∙ placed-after at (take i now-combined) m (omega (arith, l)) (at + i) (omega (arith, l))
 
-  pub combined-next : {before : List ℕ} {b : ℕ} (i : ℕ) → i < count → before ≡ paste m at now-combined i
-      → b ≡ combineByte (getD p (from + count + i) 0) (getD p (from + i) 0) (getD before (at + i) 0)
-      → set before (at + i) b ≡ paste m at now-combined (i + 1)
-  combined-next {before} {b} i h e f =
+  pub combined-next : {before : List ℕ} {b : ℕ} (i place : ℕ) → at + i ≡ place → i < count → before ≡ paste m at now-combined i
+      → b ≡ combineByte (getD p (from + count + i) 0) (getD p (from + i) 0) (getD before place 0)
+      → set before place b ≡ paste m at now-combined (i + 1)
+  combined-next {before} {b} i place there h e f =
       let g : b ≡ getD now-combined i 0 =
-      f ∙ ap (λ (x : ℕ). combineByte (getD p (from + count + i) 0) (getD p (from + i) 0) x) (ap (λ (s : List ℕ). getD s (at + i) 0) e ∙ still-there i h)
+      rw (← there) at f ∙ ap (λ (x : ℕ). combineByte (getD p (from + count + i) 0) (getD p (from + i) 0) x) (ap (λ (s : List ℕ). getD s (at + i) 0) e ∙ still-there i h)
       ∙ sym (next-byte i h) in
-      rw (e, g, add-one) (paste-suc m at now-combined i 0 (omega arith) (omega (arith, length-now)))
+      rw (e, g, add-one, ← there) (paste-suc m at now-combined i 0 (omega arith) (omega (arith, length-now)))
+
+-- bytes are gathered into a local, combined there, and scattered
+pub combined-between : (p m room : List ℕ) {read new then : List ℕ} (from count at : ℕ) → at + count ≤ length m → from + count + count ≤ length p → count ≤ length room
+    → read ≡ placed 0 (part at count m) room
+    → new ≡ placed 0 (combined (part 0 count read) (part from count p) (part (from + count) count p)) read
+    → then ≡ placed at (part 0 count new) m
+    → then ≡ placed at (combined (part at count m) (part from count p) (part (from + count) count p)) m
+combined-between p m room {read} {new} from count at fits whole few e f g =
+    let was = part at count m in
+    let l = length-part at count m fits in
+    let here : part 0 count read ≡ was =
+    ap (part 0 count) e ∙ ap (λ (n : ℕ). part 0 n (placed 0 was room)) (sym l) ∙ part-placed 0 was room (omega (arith, l)) in
+    let size : length read ≡ length room = ap length e ∙ length-placed 0 was room (omega (arith, l)) in
+    let both = combined was (part from count p) (part (from + count) count p) in
+    let k = length-now p m from count at fits whole in
+    let there : part 0 count new ≡ both =
+    ap (part 0 count) (rw here at f) ∙ ap (λ (n : ℕ). part 0 n (placed 0 both read)) (sym k) ∙ part-placed 0 both read (omega (arith, k, size)) in
+    g ∙ ap (λ (b : List ℕ). placed at b m) there
+
+-- ---- a byte to be repeated
+
+pub byte-gathered : (m : List ℕ) {byte : List ℕ} (at count : ℕ) → at + 1 ≤ length m → byte ≡ placed 0 (part at 1 m) (0 ∷ [])
+    → replicate count (getD byte 0 0) ≡ replicate count (getD m at 0)
+byte-gathered m at count h e =
+    ap (λ (b : List ℕ). replicate count (getD b 0 0)) (e ∙ ap (λ (b : List ℕ). placed 0 b (0 ∷ [])) (part-bytes at 0 m h))
 
 -- ---- the last of bytes
 
@@ -81,7 +106,6 @@ last-part p from count h k =
 pub last-none : (p m : List ℕ) (from count at : ℕ) → count ≡ 0 → m ≡ placed at (lastOf (part from count p)) m
 last-none p m from count at e = rw e (sym (placed-none at m))
 
-pub last-copied : (p m : List ℕ) {then : List ℕ} (from count at : ℕ) → 1 ≤ count → at + 1 ≤ length m → from + count ≤ length p
-    → then ≡ copied p (from + count - 1) 1 m at → then ≡ placed at (lastOf (part from count p)) m
-last-copied p m from count at h k l e =
-    e ∙ copied-done p (from + count - 1) 1 m at (omega arith) k ∙ ap (λ (b : List ℕ). placed at b m) (sym (last-part p from count h l))
+pub last-scattered : (p m : List ℕ) {then : List ℕ} (from count at : ℕ) → 1 ≤ count → from + count ≤ length p
+    → then ≡ placed at (part (from + count - 1) 1 p) m → then ≡ placed at (lastOf (part from count p)) m
+last-scattered p m from count at h l e = e ∙ ap (λ (b : List ℕ). placed at b m) (sym (last-part p from count h l))

@@ -1,11 +1,13 @@
-// What is done: the reply written, memory stored to, the unit changed (document 01, 'Effects', 'Fields', 'Owner'). Nothing else indexes
-// memory.
+// What is done: the reply written, memory stored to, the unit changed (document 01, 'Effects', 'Fields', 'Owner'). Memory is read and
+// written by way of gather and scatter alone.
 ghost use mathlib.Core.Path.{_≡_};
+ghost use mathlib.Core.List.{[]};
 ghost use Prim.Native.Nat.{_+_, _^_, _≤_, min};
-ghost use lib.ListN.{length, getD};
+ghost use lib.ListN.{length, getD, replicate};
 ghost use Rattle.octets.specs.Places.{part, placed};
 ghost use Rattle.packets.specs.Reply.{replied};
-ghost use Rattle.unit.specs.Granted.{Readable, Storable};
+ghost use Rattle.unit.specs.Granted.{Readable, Storable, Gatherable, Answerable};
+ghost use Rattle.unit.specs.Fate.{byteOf, fateNumber};
 ghost use Rattle.unit.specs.Act.{combineByte, combined, lastOf, stored, dataFor, repliedTo};
 ghost use Rattle.unit.specs.Act.{fieldWritten, changed, countedUnit};
 ghost use Rattle.unit.specs.Fields.{fieldOf, named, valuesOf, fieldBytes};
@@ -15,6 +17,8 @@ use crate::decide::Action;
 use crate::decide::Plan;
 use crate::fate::Fate;
 use crate::fields;
+use crate::memory::gather;
+use crate::memory::scatter;
 use crate::unit::Unit;
 use packets::Header;
 use packets::Path;
@@ -31,7 +35,7 @@ pub(crate) fn respond(
     memory: &[u8],
     reply: &mut [u8],
 )
-    requires { ⌜ Readable (plan .action) (length (now memory)) ⌝ }
+    requires { ⌜ Readable (plan .action) (length (now memory)) × (fateNumber (plan .fate) ≡ 20 → Answerable (plan .action) h path (byteOf (plan .status)) (length (now reply))) ⌝ }
     ensures { λ _. ⌜ now (reply .exit) ≡ repliedTo plan unit h path link (record { memory = now (memory .entry); reply = now (reply .entry) }) ⌝ }
 {
     let fate = plan.fate;
@@ -53,28 +57,19 @@ fn answer(
     memory: &[u8],
     reply: &mut [u8],
 )
-    requires { ⌜ Readable action (length (now memory)) ⌝ }
+    requires { ⌜ Readable action (length (now memory)) × Answerable action h path status (length (now reply)) ⌝ }
     ensures { λ _. ⌜ now (reply .exit) ≡ replied path h status (dataFor action unit link (now (memory .entry))) (now (reply .entry)) ⌝ }
 {
     match action {
-        Action::Nothing => {
-            packets::write_reply(path, h, status, &[], reply);
-        }
-        Action::ReadMemory(at, count) => {
-            packets::write_reply(path, h, status, &memory[at..at + count], reply);
-        }
+        Action::Nothing => answer_nothing(status, h, path, reply),
+        Action::ReadMemory(at, count) => answer_memory(at, count, status, h, path, memory, reply),
         Action::RepeatByte(at, count) => {
-            packets::write_repeated_reply(path, h, status, byte_at(memory, at), count, reply);
+            let byte = byte_at(memory, at, count);
+            packets::write_repeated_reply(path, h, status, byte, count, reply);
         }
-        Action::Store(_, _, _) => {
-            packets::write_reply(path, h, status, &[], reply);
-        }
-        Action::StoreLast(_, _, _) => {
-            packets::write_reply(path, h, status, &[], reply);
-        }
-        Action::Combine(at, _, count) => {
-            packets::write_reply(path, h, status, &memory[at..at + count], reply);
-        }
+        Action::Store(_, _, _) => answer_nothing(status, h, path, reply),
+        Action::StoreLast(_, _, _) => answer_nothing(status, h, path, reply),
+        Action::Combine(at, _, count) => answer_memory(at, count, status, h, path, memory, reply),
         Action::ReadFields(address, count) => {
             answer_fields(address, count, status, unit, h, path, link, reply);
         }
@@ -82,17 +77,44 @@ fn answer(
             let old = octets::bytes4(unit.owner.device);
             packets::write_reply(path, h, status, &old, reply);
         }
-        Action::WriteField(_, _) => {
-            packets::write_reply(path, h, status, &[], reply);
-        }
+        Action::WriteField(_, _) => answer_nothing(status, h, path, reply),
     }
 }
 
-// The byte at a place; 0 past the end.
-fn byte_at(s: &[u8], at: usize) -> u8
-    ensures { λ b. ⌜ b ≡ getD (now (s .entry)) at 0 ⌝ }
+fn answer_nothing(status: u8, h: Header, path: Path, reply: &mut [u8])
+    ensures { λ _. ⌜ now (reply .exit) ≡ replied path h status [] (now (reply .entry)) ⌝ }
 {
-    if at < s.len() { s[at] } else { 0 }
+    packets::write_reply(path, h, status, &[], reply);
+}
+
+// Bytes of memory are gathered into their place in the reply, which is then written around them.
+fn answer_memory(
+    at: usize,
+    count: usize,
+    status: u8,
+    h: Header,
+    path: Path,
+    memory: &[u8],
+    reply: &mut [u8],
+)
+    requires { ⌜ (at + count ≤ length (now memory)) × Gatherable count h path status (length (now reply)) ⌝ }
+    ensures { λ _. ⌜ now (reply .exit) ≡ replied path h status (part at count (now (memory .entry))) (now (reply .entry)) ⌝ }
+{
+    gather(memory, at, count, reply, packets::data_place(path));
+    packets::write_reply_around(path, h, status, count as u32, reply);
+}
+
+// The byte at a place of memory, which is to be repeated. Where that is 0 times, there may be none.
+fn byte_at(memory: &[u8], at: usize, count: u32) -> u8
+    requires { ⌜ at + min count 1 ≤ length (now memory) ⌝ }
+    ensures { λ b. ⌜ replicate count b ≡ replicate count (getD (now (memory .entry)) at 0) ⌝ }
+{
+    if count == 0 {
+        return 0;
+    }
+    let mut byte = [0u8; 1];
+    gather(memory, at, 1, &mut byte, 0);
+    byte[0]
 }
 
 fn answer_fields(
@@ -125,9 +147,7 @@ pub(crate) fn store(action: Action, packet: &[u8], memory: &mut [u8])
         Action::Nothing => {}
         Action::ReadMemory(_, _) => {}
         Action::RepeatByte(_, _) => {}
-        Action::Store(at, from, count) => {
-            octets::copy_part(packet, from, count, memory, at);
-        }
+        Action::Store(at, from, count) => scatter(packet, from, count, memory, at),
         Action::StoreLast(at, from, count) => store_last(packet, from, count, memory, at),
         Action::Combine(at, from, count) => combine(packet, from, count, memory, at),
         Action::ReadFields(_, _) => {}
@@ -144,18 +164,29 @@ fn store_last(packet: &[u8], from: usize, count: usize, memory: &mut [u8], at: u
     if count == 0 {
         return;
     }
-    octets::copy_part(packet, from + count - 1, 1, memory, at);
+    scatter(packet, from + count - 1, 1, memory, at);
 }
 
 // A read-modify-write of `count` bytes: data from `from` on, then masks.
 fn combine(packet: &[u8], from: usize, count: usize, memory: &mut [u8], at: usize)
-    requires { ⌜ (at + count ≤ length (now memory)) × (from + count + count ≤ length (now packet)) ⌝ }
+    requires { ⌜ (at + count ≤ length (now memory)) × (from + count + count ≤ length (now packet)) × (count ≤ 4) ⌝ }
     ensures { λ _. ⌜ now (memory .exit) ≡ placed at (combined (part at count (now (memory .entry))) (part from count (now (packet .entry))) (part (from + count) count (now (packet .entry)))) (now (memory .entry)) ⌝ }
+{
+    let mut bytes = [0u8; 4];
+    gather(memory, at, count, &mut bytes, 0);
+    combine_with(packet, from, count, &mut bytes);
+    scatter(&bytes, 0, count, memory, at);
+}
+
+// Of bytes that were read, the first `count` are combined with their data and masks.
+fn combine_with(packet: &[u8], from: usize, count: usize, read: &mut [u8])
+    requires { ⌜ (count ≤ length (now read)) × (from + count + count ≤ length (now packet)) ⌝ }
+    ensures { λ _. ⌜ now (read .exit) ≡ placed 0 (combined (part 0 count (now (read .entry))) (part from count (now (packet .entry))) (part (from + count) count (now (packet .entry)))) (now (read .entry)) ⌝ }
 {
     let masks = from + count;
     let mut i = 0;
     while i < count {
-        memory[at + i] = combine_byte(packet[masks + i], packet[from + i], memory[at + i]);
+        read[i] = combine_byte(packet[masks + i], packet[from + i], read[i]);
         i += 1;
     }
 }

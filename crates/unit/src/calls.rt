@@ -1,7 +1,7 @@
 // The three calls on a unit (document 01, 'The terminal and its neighbours', 'Numbers a caller gets').
 ghost use mathlib.Core.Path.{_≡_};
 ghost use lib.ListN.{length};
-ghost use Rattle.unit.specs.Granted.{GrantedBy, Granted};
+ghost use Rattle.unit.specs.Granted.{GrantedBy, GrantedTo};
 ghost use Rattle.unit.specs.Act.{countedUnit};
 ghost use Rattle.unit.specs.Calls.{withoutReply, acted, done, takePacket, takeTimeCode, takeTicks};
 use crate::act;
@@ -94,7 +94,7 @@ fn carry_out(
     memory: &mut [u8],
     reply: &mut [u8],
 ) -> Answer
-    requires { ⌜ GrantedBy (judgement .ruling) (length (now bytes)) (length (now memory)) ⌝ }
+    requires { ⌜ GrantedBy (judgement .ruling) (judgement .path) (length (now bytes)) (length (now memory)) (length (now reply)) ⌝ }
     ensures { λ a. ⌜ record { answer = a; memory = now (memory .exit); reply = now (reply .exit) } ≡ done judgement unit (now (bytes .entry)) link (record { memory = now (memory .entry); reply = now (reply .entry) }) ⌝ }
 {
     let path = judgement.path;
@@ -121,7 +121,7 @@ fn follow(
     memory: &mut [u8],
     reply: &mut [u8],
 ) -> Answer
-    requires { ⌜ Granted (plan .action) (length (now bytes)) (length (now memory)) ⌝ }
+    requires { ⌜ GrantedTo plan h path (length (now bytes)) (length (now memory)) (length (now reply)) ⌝ }
     ensures { λ a. ⌜ record { answer = a; memory = now (memory .exit); reply = now (reply .exit) } ≡ acted plan unit h path (now (bytes .entry)) link (record { memory = now (memory .entry); reply = now (reply .entry) }) ⌝ }
 {
     act::respond(plan, unit, h, path, link, memory, reply);

@@ -3,7 +3,7 @@
 // takes any input, and promises an equation for what it answers and what it leaves.
 //
 // A packet's way: it is judged, then done. judging says what it comes to and touches nothing; where it is a command, decide makes the plan. calls follows
-// that: act has the few functions that touch memory and the reply buffer, and what changes in the unit.
+// that: act writes the reply, stores, and has what changes in the unit; memory has the two functions that touch lent memory.
 mod act;
 mod calls;
 mod clock;
@@ -12,6 +12,7 @@ mod decide;
 mod fate;
 mod fields;
 mod judging;
+mod memory;
 mod owner;
 mod unit;
 mod whole;

@@ -144,3 +144,21 @@ fn repeated_into(
     let did = packets::write_repeated_reply(path, h, status, byte, count, out);
     show::outcome(name, did, out);
 }
+
+// The reply around data that are in their place already: `count` bytes of the buffer itself.
+pub(crate) fn around(name: &[u8], packet: &[u8], status: u8, room: usize, count: u32) {
+    let p = packets::read_packet(packet, NUMBER);
+    let path = p.path;
+    let reading = p.reading;
+    let mut out = [0xeeu8; 400];
+    match reading {
+        Reading::Command(h) => around_into(name, path, h, status, count, &mut out[0..room % 401]),
+        Reading::Refused(_) => show::text(b"no command\n"),
+        Reading::Time => show::text(b"no command\n"),
+    }
+}
+
+fn around_into(name: &[u8], path: Path, h: Header, status: u8, count: u32, out: &mut [u8]) {
+    let did = packets::write_reply_around(path, h, status, count, out);
+    show::outcome(name, did, out);
+}

@@ -60,8 +60,7 @@ pub(crate) fn read(name: &[u8], at: usize, width: usize) {
 // A number, in sixteen hexadecimal digits.
 fn value(name: &[u8], n: u64) {
     show::text(name);
-    show::text(b": ");
-    io::print_hex(1, n, 16);
+    show::number(b": ", n, 16);
     show::text(b"\n");
 }
 

@@ -4,11 +4,6 @@ pub(crate) fn text(s: &[u8]) {
     io::write_all(1, s);
 }
 
-// A byte as two hexadecimal digits.
-pub(crate) fn byte(b: u8) {
-    io::print_hex(1, b as u64, 2);
-}
-
 // A number behind a text, in hexadecimal, with at least `width` digits.
 pub(crate) fn number(before: &[u8], n: u64, width: usize) {
     text(before);
@@ -19,8 +14,7 @@ pub(crate) fn number(before: &[u8], n: u64, width: usize) {
 pub(crate) fn line(bytes: &[u8]) {
     let mut i = 0;
     while i < bytes.len() {
-        text(b" ");
-        byte(bytes[i]);
+        number(b" ", bytes[i] as u64, 2);
         i += 1;
     }
     text(b"\n");

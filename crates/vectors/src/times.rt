@@ -20,8 +20,7 @@ fn answer(name: &[u8], read: TimeReading) {
     io::print_decimal(1, read.number() as u64);
     match read {
         TimeReading::Taken(t) => {
-            show::text(b", epoch ");
-            show::byte(t.epoch);
+            show::number(b", epoch ", t.epoch as u64, 2);
             let when = t.when;
             match when {
                 When::AtOnce => show::text(b", at once, "),

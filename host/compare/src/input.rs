@@ -86,8 +86,8 @@ impl Input for Record {
 
 impl Input for Line {
     const NAMES: (&str, &str) = ("lines", "scripts");
-    /// As many as 64 KiB hold.
-    const SIZE: u64 = 950;
+    /// As many as `stories::script` has room for.
+    const SIZE: u64 = 1450;
 
     fn row(seed: u64, index: u64) -> Vec<Self> {
         stories::script(seed, index)
@@ -97,11 +97,8 @@ impl Input for Line {
         row.iter().fold("# script\n".to_string(), |text, line| text + &line.to_string() + "\n").into_bytes()
     }
 
-    /// The program begins with vectors of its own; the script's heading ends them.
     fn own(printed: &[u8]) -> Option<&[u8]> {
-        let heading = b"\nscript\n";
-        let at = printed.windows(heading.len()).position(|part| part == heading)?;
-        Some(&printed[at + heading.len()..])
+        printed.strip_prefix(b"script\n")
     }
 
     fn expected(row: &[Self]) -> Vec<u8> {

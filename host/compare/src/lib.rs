@@ -1,5 +1,5 @@
 //! The comparison of built programs with the model: the same input to both, line by line, with a count of the outcomes reached. The
-//! bench program is given logs; `vectors` is given scripts, which set units up as no bench can, and show what no bench shows.
+//! bench program is given logs; `trials` is given scripts, which set units up as no bench can, and show what no bench shows.
 #![forbid(unsafe_code)]
 
 pub mod difference;

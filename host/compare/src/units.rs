@@ -1,4 +1,4 @@
-//! What the program `vectors` prints of a script, with the model's unit in place of the proved one.
+//! What the program `trials` prints of a script, with the model's unit in place of the proved one.
 use model::{End, Time, Unit, Window, crc};
 use std::fmt::Write;
 use stories::{LENT, Line, Setting};

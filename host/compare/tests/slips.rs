@@ -95,8 +95,7 @@ fn a_program_that_fails() {
 /// A program that takes no line of a script shows by one line that prints something.
 #[test]
 fn a_script_that_is_not_run() {
-    let failure =
-        run::<Line>(SEED, 1, &|_| Ok(b"its own vectors\nscript\n".to_vec()), &quiet).err().expect("not found");
+    let failure = run::<Line>(SEED, 1, &|_| Ok(b"script\n".to_vec()), &quiet).err().expect("not found");
     assert_eq!(failure.difference.row.len(), 1);
 }
 

@@ -1,4 +1,4 @@
-//! Inputs made from a seed: logs for the bench, and scripts for the program `vectors`, which drives units of every kind. Most packets
+//! Inputs made from a seed: logs for the bench, and scripts for the program `trials`, which drives units of every kind. Most packets
 //! are right commands with one damage or none, so that they get deep into the terminal; they come as stories, in which one packet
 //! makes the next one matter.
 #![forbid(unsafe_code)]

@@ -1,4 +1,4 @@
-//! A script for the program `vectors`: units of every kind, what is asked of them, and what they hold then. The program's own
+//! A script for the program `trials`: units of every kind, what is asked of them, and what they hold then. The program's own
 //! comment says what each line does.
 use crate::chance::Chance;
 use crate::command::path;
@@ -8,12 +8,13 @@ use crate::record::Record;
 use crate::story::Story;
 use std::fmt;
 
-/// The most that the program lends, as memory or as reply buffer, takes as a packet, and reads in all.
+/// The most that the program lends, as memory or as reply buffer, and takes as a packet.
 pub const LENT: usize = 65_600;
+const PACKET: usize = 1100;
 /// A reply buffer that most replies fit into.
 const ROOM: usize = 512;
-const PACKET: usize = 1100;
-const SCRIPT: usize = 65_536;
+/// More than the program reads at a time, so that its blocks end anywhere in a line.
+const SCRIPT: usize = 100_000;
 
 #[derive(Clone, Debug, PartialEq, Eq)]
 pub enum Line {
@@ -77,8 +78,7 @@ pub fn script(seed: u64, index: u64) -> Vec<Line> {
     loop {
         let scene = scene(&mut chance);
         size += scene.iter().map(|line| line.to_string().len() + 1).sum::<usize>();
-        // The program's own first line is to be left room for.
-        if size > SCRIPT - 100 {
+        if size > SCRIPT {
             return lines;
         }
         lines.extend(scene);

@@ -1,5 +1,4 @@
 -- `packets::reply::write_repeated_reply` meets its contract: the byte is filled into the places of the data, and the rest goes around them.
-use Prim.Native.Nat.{_+_}
 use native.Mathlib.Omega.{arith}
 use borrow.Author.Tests.{not-true, not-false}
 use denote.Ref.{now}
@@ -24,11 +23,8 @@ returns c =
     let fits = c .before .fits2 in
     reply-refused (a .path) (a .header) (a .status) (a .count) (count .result) (count .ensures) out (fits .ensures) d (length-replicate (a .count) (a .byte)) (not-true _ (c .if1 .taken))
 
-size-requires : tie.Need-size-requires
-size-requires c κs = search needs
-
-add-fill : tie.Need-add-fill
-add-fill c = search needs
+data-place-requires : tie.Need-data-place-requires
+data-place-requires c κs = search needs
 
 fill-requires : tie.Need-fill-requires
 fill-requires c κs = search needs
@@ -53,7 +49,7 @@ surround-requires c κs =
     let d = replicate (a .count) (a .byte) in
     let fits = test .before .fits2 in
     let room = reply-room (a .path) (a .header) (a .status) (a .count) (count .result) (count .ensures) out (fits .ensures) (not-false _ (test .if1 .left)) in
-    let same = filled-length out (c .before .before .before .before .size .result + 12) (count .result) (a .byte) (c .before .before .before .fill .ensures .1) in
+    let same = filled-length out (c .before .before .before .before .data-place .result) (count .result) (a .byte) (c .before .before .before .fill .ensures .1) in
     omega arith
 
 same-length : tie.Need-same-length
@@ -68,8 +64,8 @@ returns-2 c =
     let d = replicate (a .count) (a .byte) in
     let fits = test .before .fits2 in
     let yes = not-false _ (test .if1 .left) in
-    let size = c .before .before .before .before .before .before .before .size in
-    reply-filled (a .path) (a .header) (a .status) (a .count) (count .result) (count .ensures) out (fits .ensures) (a .byte) (size .result) yes (size .ensures .0)
+    let place = c .before .before .before .before .before .before .before .data-place in
+    reply-filled (a .path) (a .header) (a .status) (a .count) (count .result) (count .ensures) out (fits .ensures) (a .byte) (place .result) yes (place .ensures)
     (c .before .before .before .before .before .before .fill .ensures .1) (c .before .before .surround .ensures)
 
 pub write-repeated-reply-spec : {M : Type 1} → statement M
@@ -79,8 +75,7 @@ write-repeated-reply-spec =
     carried-count-requires
     fits-requires
     returns
-    size-requires
-    add-fill
+    data-place-requires
     fill-requires
     cast-surround
     surround-requires

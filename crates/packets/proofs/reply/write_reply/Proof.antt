@@ -1,6 +1,5 @@
 -- `packets::reply::write_reply` meets its contract: the carried bytes are copied to their place, and the rest goes around them.
 use mathlib.Core.Path.{refl}
-use Prim.Native.Nat.{_+_}
 use native.Mathlib.Omega.{arith}
 use borrow.Author.Tests.{not-true, not-false}
 use denote.Ref.{now}
@@ -25,11 +24,8 @@ returns c =
     let fits = c .before .fits2 in
     reply-refused (a .path) (a .header) (a .status) (length d) (count .result) (count .ensures) out (fits .ensures) d refl (not-true _ (c .if1 .taken))
 
-size-requires : tie.Need-size-requires
-size-requires c κs = search needs
-
-add-copy-part : tie.Need-add-copy-part
-add-copy-part c = search needs
+data-place-requires : tie.Need-data-place-requires
+data-place-requires c κs = search needs
 
 copy-part-requires : tie.Need-copy-part-requires
 copy-part-requires c κs = search needs
@@ -54,7 +50,7 @@ surround-requires c κs =
     let d = now (a .bytes) in
     let fits = test .before .fits2 in
     let room = reply-room (a .path) (a .header) (a .status) (length d) (count .result) (count .ensures) out (fits .ensures) (not-false _ (test .if1 .left)) in
-    let same = copied-length d (count .result) out (c .before .before .before .before .size .result + 12) (c .before .before .before .copy-part .ensures .1) in
+    let same = copied-length d (count .result) out (c .before .before .before .before .data-place .result) (c .before .before .before .copy-part .ensures .1) in
     omega arith
 
 same-length : tie.Need-same-length
@@ -69,8 +65,8 @@ returns-2 c =
     let d = now (a .bytes) in
     let fits = test .before .fits2 in
     let yes = not-false _ (test .if1 .left) in
-    let size = c .before .before .before .before .before .before .before .size in
-    reply-copied (a .path) (a .header) (a .status) (length d) (count .result) (count .ensures) out (fits .ensures) d (size .result) refl yes (size .ensures .0)
+    let place = c .before .before .before .before .before .before .before .data-place in
+    reply-copied (a .path) (a .header) (a .status) (length d) (count .result) (count .ensures) out (fits .ensures) d (place .result) refl yes (place .ensures)
     (c .before .before .before .before .before .before .copy-part .ensures .1) (c .before .before .surround .ensures)
 
 pub write-reply-spec : {M : Type 1} → statement M
@@ -80,8 +76,7 @@ write-reply-spec =
     carried-count-requires
     fits-requires
     returns
-    size-requires
-    add-copy-part
+    data-place-requires
     copy-part-requires
     cast-surround
     surround-requires

@@ -1,108 +1,51 @@
--- `unit::act::combine` meets its contract: after i turns memory is what it was with the first i combined bytes pasted; the next byte is still what was read.
-use Rattle.unit.proofs.ActLaws.{length-now, combined-next}
-use Rattle.octets.proofs.PlaceLaws.{pasted}
-use Rattle.octets.specs.Places.{part}
-use lib.Seq.{paste, paste-zero}
-use Rattle.unit.specs.Act.{combined}
+-- `unit::act::combine` meets its contract: what is gathered is combined in a local, and scattered to where it was.
+use Rattle.unit.proofs.ActLaws.{combined-between}
 use denote.Ref.{now}
-use native.Mathlib.Omega.{arith}
-use mathlib.Core.Path.{_≡_, refl, sym, _∙_}
-use Prim.Native.Nat.{_+_, _-_, _≤_}
-use lib.ListN.{length, length-set}
+use mathlib.Core.List.{[], _∷_}
 use borrow.Author.Needs.{needs}
 use Rattle.unit.proofs.act.combine.Statement.{statement}
 use Rattle.unit.proofs.act.combine.Tie as tie
 
-abbrev Inv-loop : tie.InvT-loop
-Inv-loop packet from count memory₀ at masks i₀ memory i =
-    (i ≤ count) × (memory ≡ paste memory₀ at (combined (part at count memory₀) (part from count packet) (part (from + count) count packet)) i) × (length memory ≡ length memory₀)
+slice-aggregate-gather : tie.Need-slice-aggregate-gather
+slice-aggregate-gather c = search needs
 
-abbrev μ-loop : tie.MeasureT-loop
-μ-loop packet from count memory₀ at masks i₀ memory i = count - i
+gather-requires : tie.Need-gather-requires
+gather-requires c κs = search needs
 
-add-masks : tie.Need-add-masks Inv-loop μ-loop
-add-masks c = search needs
+slice-aggregate-combine-with : tie.Need-slice-aggregate-combine-with
+slice-aggregate-combine-with c = search needs
 
-loop-holds : tie.Need-loop-holds Inv-loop μ-loop
-loop-holds c =
-    let a = c .before .before .args in (
-      search needs,
-      paste-zero (now (a .memory)) (a .at)
-          (combined (part (a .at) (a .count) (now (a .memory))) (part (a .from) (a .count) (now (a .packet))) (part (a .from + a .count) (a .count) (now (a .packet)))),
-      refl,
-    )
+combine-with-requires : tie.Need-combine-with-requires
+combine-with-requires c κs = search needs
 
-add-combine-byte : tie.Need-add-combine-byte Inv-loop μ-loop
-add-combine-byte c = search needs
+slice-aggregate-scatter : tie.Need-slice-aggregate-scatter
+slice-aggregate-scatter c = search needs
 
-shared-slice-read-combine-byte : tie.Need-shared-slice-read-combine-byte Inv-loop μ-loop
-shared-slice-read-combine-byte c = search needs
+scatter-requires : tie.Need-scatter-requires
+scatter-requires c κs = search needs
 
-add-combine-byte-2 : tie.Need-add-combine-byte-2 Inv-loop μ-loop
-add-combine-byte-2 c = search needs
-
-shared-slice-read-combine-byte-2 : tie.Need-shared-slice-read-combine-byte-2 Inv-loop μ-loop
-shared-slice-read-combine-byte-2 c = search needs
-
-add-combine-byte-3 : tie.Need-add-combine-byte-3 Inv-loop μ-loop
-add-combine-byte-3 c = search needs
-
-slice-read-combine-byte : tie.Need-slice-read-combine-byte Inv-loop μ-loop
-slice-read-combine-byte c = search needs
-
-combine-byte-requires : tie.Need-combine-byte-requires Inv-loop μ-loop
-combine-byte-requires c κs = search needs
-
-add-memory : tie.Need-add-memory Inv-loop μ-loop
-add-memory c = search needs
-
-slice-write-memory : tie.Need-slice-write-memory Inv-loop μ-loop
-slice-write-memory c = search needs
-
-add-i : tie.Need-add-i Inv-loop μ-loop
-add-i c = search needs
-
-loop-less : tie.Need-loop-less Inv-loop μ-loop
-loop-less c = search needs
-
-loop-again : tie.Need-loop-again Inv-loop μ-loop
-loop-again c =
-    let a = c .before .before .before .before .before .before .before .before .args in
-    let l = c .before .before .before .before .before .loop in (
-      omega arith,
-      combined-next (now (a .packet)) (now (a .memory)) (a .from) (a .count) (a .at) (omega arith) (omega arith) (l .i) (omega arith) (l .inv .1) (c .combine-byte .ensures),
-      simp length-set (l .inv .2),
-    )
-
-same-length : tie.Need-same-length Inv-loop μ-loop
+same-length : tie.Need-same-length
 same-length c = search needs
 
-returns : tie.Need-returns Inv-loop μ-loop
-returns c = let a = c .before .before .before .before .args in
-    let l = c .before .loop in
-    let n : l .i ≡ a .count = omega arith in
-    let m = length-now (now (a .packet)) (now (a .memory)) (a .from) (a .count) (a .at) (omega arith) (omega arith) in
-    l .inv .1 ∙ pasted (now (a .memory)) (a .at) _ (l .i) (m ∙ sym n)
+returns : tie.Need-returns
+returns c =
+    let c4 = c .before .before .before .before in
+    let c8 = c4 .before .before .before .before in
+    let start = c8 .before .before .before .before .before .before in
+    let a = start .args in
+    let w = start .pre in
+    combined-between (now (a .packet)) (now (a .memory)) (0 ∷ 0 ∷ 0 ∷ 0 ∷ []) (a .from) (a .count) (a .at) (w .0) (w .1) (w .2)
+    (c8 .before .gather .ensures) (c4 .before .before .combine-with .ensures) (c .before .before .scatter .ensures)
 
 pub combine-spec : {M : Type 1} → statement M
 combine-spec =
     tie.close
     (tie.spec
-    Inv-loop
-    μ-loop
-    add-masks
-    loop-holds
-    add-combine-byte
-    shared-slice-read-combine-byte
-    add-combine-byte-2
-    shared-slice-read-combine-byte-2
-    add-combine-byte-3
-    slice-read-combine-byte
-    combine-byte-requires
-    add-memory
-    slice-write-memory
-    add-i
-    loop-less
-    loop-again
+    slice-aggregate-gather
+    gather-requires
+    slice-aggregate-combine-with
+    combine-with-requires
+    slice-aggregate-scatter
+    scatter-requires
     same-length
     returns)

@@ -1,5 +1,6 @@
 -- `unit::act::respond` meets its contract: the reply is written exactly where the fate is 20.
 use Rattle.unit.specs.Act.{repliedTo}
+use mathlib.Core.Path.{sym, _∙_}
 use borrow.Author.Tests.{eq-eqb, ne-eqb}
 use borrow.Author.Needs.{needs}
 use Rattle.unit.proofs.act.respond.Statement.{statement}
@@ -16,7 +17,9 @@ byte-requires : tie.Need-byte-requires
 byte-requires c κs = search needs
 
 answer-requires : tie.Need-answer-requires
-answer-requires c κs = search needs
+answer-requires c κs =
+    let w = c .before .before .before .before .before .before .pre in
+    (w .0, rw (c .before .byte .ensures) (w .1 (sym (c .before .before .before .number .ensures) ∙ c .before .before .if1 .left)))
 
 same-length : tie.Need-same-length
 same-length c = search needs

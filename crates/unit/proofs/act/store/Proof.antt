@@ -1,8 +1,5 @@
--- `unit::act::store` meets its contract: action by action; the copy is whole, since its places are there.
-use Rattle.octets.proofs.PlaceLaws.{copied-done}
+-- `unit::act::store` meets its contract: action by action; what is stored is scattered.
 use Rattle.unit.specs.Act.{stored}
-use denote.Ref.{now}
-use mathlib.Core.Path.{_∙_}
 use borrow.Author.Needs.{needs}
 use Rattle.unit.proofs.act.store.Statement.{statement}
 use Rattle.unit.proofs.act.store.Tie as tie
@@ -19,8 +16,10 @@ enum-told-3 c = search needs
 enum-known-action : tie.Need-enum-known-action
 enum-known-action c = search needs
 
-copy-part-requires : tie.Need-copy-part-requires
-copy-part-requires c κs = search needs
+scatter-requires : tie.Need-scatter-requires
+scatter-requires c κs =
+    let w = rw (c .before .before .action .given .1) at (c .before .before .before .before .before .before .pre) in
+    (w .1, w .0)
 
 enum-known-action-2 : tie.Need-enum-known-action-2
 enum-known-action-2 c = search needs
@@ -60,14 +59,7 @@ same-length c = search needs
 
 returns-4 : tie.Need-returns-4
 unfolding stored
-returns-4 c =
-    let c4 = c .before .before .before .before in
-    let c8 = c4 .before .before .before .before in
-    let a = c8 .before .args in
-    let g = c4 .before .action .given in
-    let w = rw (g .1) at (c8 .before .pre) in
-    rw (g .1)
-    (c .before .before .copy-part .ensures .1 ∙ copied-done (now (a .packet)) (g .0 .1 .0) (g .0 .1 .1 .0) (now (a .memory)) (g .0 .0) (w .1) (w .0))
+returns-4 c = rw (c .before .before .before .before .before .action .given .1) (c .before .before .scatter .ensures)
 
 same-length-2 : tie.Need-same-length-2
 same-length-2 c = search needs
@@ -103,7 +95,7 @@ store-spec =
     enum-told-2
     enum-told-3
     enum-known-action
-    copy-part-requires
+    scatter-requires
     enum-known-action-2
     store-last-requires
     enum-known-action-3

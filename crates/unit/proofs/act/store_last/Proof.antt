@@ -1,5 +1,5 @@
--- `unit::act::store_last` meets its contract: nothing where there are no bytes, else the copy of the last one.
-use Rattle.unit.proofs.ActLaws.{last-none, last-copied}
+-- `unit::act::store_last` meets its contract: nothing where there are no bytes, else the last one is scattered.
+use Rattle.unit.proofs.ActLaws.{last-none, last-scattered}
 use denote.Ref.{now}
 use native.Mathlib.Omega.{arith}
 use Prim.Native.Nat.{_≤_}
@@ -10,14 +10,14 @@ use Rattle.unit.proofs.act.store_last.Tie as tie
 returns : tie.Need-returns
 returns c = let a = c .before .before .before .args in last-none (now (a .packet)) (now (a .memory)) (a .from) (a .count) (a .at) (c .if1 .taken)
 
-add-copy-part : tie.Need-add-copy-part
-add-copy-part c = search needs
+add-scatter : tie.Need-add-scatter
+add-scatter c = search needs
 
-sub-copy-part : tie.Need-sub-copy-part
-sub-copy-part c = search needs
+sub-scatter : tie.Need-sub-scatter
+sub-scatter c = search needs
 
-copy-part-requires : tie.Need-copy-part-requires
-copy-part-requires c κs = search needs
+scatter-requires : tie.Need-scatter-requires
+scatter-requires c κs = search needs
 
 same-length : tie.Need-same-length
 same-length c = search needs
@@ -26,10 +26,10 @@ returns-2 : tie.Need-returns-2
 returns-2 c =
     let a = c .before .before .before .before .before .before .before .args in
     let some : 1 ≤ a .count = omega arith in
-    last-copied (now (a .packet)) (now (a .memory)) (a .from) (a .count) (a .at) some (omega (arith, some)) (omega arith)
-    (c .before .before .copy-part .ensures .1)
+    last-scattered (now (a .packet)) (now (a .memory)) (a .from) (a .count) (a .at) some (omega arith)
+    (c .before .before .scatter .ensures)
 
 pub store-last-spec : {M : Type 1} → statement M
 store-last-spec =
     tie.close
-    (tie.spec returns add-copy-part sub-copy-part copy-part-requires same-length returns-2)
+    (tie.spec returns add-scatter sub-scatter scatter-requires same-length returns-2)

@@ -6,13 +6,13 @@ use Rattle.unit.proofs.calls.follow.Tie as tie
 respond-requires : tie.Need-respond-requires
 respond-requires c κs =
     let c4 = c .before .before .before .before in
-    c4 .before .pre .0
+    (c4 .before .pre .0 .0, c4 .before .pre .1)
 
 store-requires : tie.Need-store-requires
 store-requires c κs =
     let c4 = c .before .before .before .before in
     let c8 = c4 .before .before .before .before in
-    c8 .before .pre .1
+    c8 .before .pre .0 .1
 
 change-requires : tie.Need-change-requires
 change-requires c κs = search needs

@@ -1,34 +1,30 @@
 -- `vectors::lines::each` is safe and ends: a line takes at least a byte, its end, which the last may lack.
-use mathlib.Core.Path.{_≡_}
 use Prim.Native.Nat.{_+_, _-_, _≤_}
-use lib.ListN.{length}
 use borrow.Author.Needs.{needs}
+use lib.ListN.{length}
 use Rattle.vectors.proofs.lines.each.Statement.{statement}
 use Rattle.vectors.proofs.lines.each.Tie as tie
 
 abbrev Inv-loop : tie.InvT-loop
-Inv-loop s memory₀ state₀ at₀ memory state at = (at ≤ length s + 1) × (length memory ≡ length memory₀)
+Inv-loop s at₀ at = at ≤ length s + 1
 
 abbrev μ-loop : tie.MeasureT-loop
-μ-loop s memory₀ state₀ at₀ memory state at = length s + 1 - at
-
-fresh-requires : tie.Need-fresh-requires Inv-loop μ-loop
-fresh-requires c κs = search needs
+μ-loop s at₀ at = length s + 1 - at
 
 loop-holds : tie.Need-loop-holds Inv-loop μ-loop
 loop-holds c = search needs
 
-sub-find : tie.Need-sub-find Inv-loop μ-loop
-sub-find c = search needs
+sub-line-size : tie.Need-sub-line-size Inv-loop μ-loop
+sub-line-size c = search needs
 
-part-find-start : tie.Need-part-find-start Inv-loop μ-loop
-part-find-start c = search needs
+part-line-size-start : tie.Need-part-line-size-start Inv-loop μ-loop
+part-line-size-start c = search needs
 
-part-find-end : tie.Need-part-find-end Inv-loop μ-loop
-part-find-end c = search needs
+part-line-size-end : tie.Need-part-line-size-end Inv-loop μ-loop
+part-line-size-end c = search needs
 
-find-requires : tie.Need-find-requires Inv-loop μ-loop
-find-requires c κs = search needs
+line-size-requires : tie.Need-line-size-requires Inv-loop μ-loop
+line-size-requires c κs = search needs
 
 add-run : tie.Need-add-run Inv-loop μ-loop
 add-run c = search needs
@@ -57,9 +53,6 @@ loop-less c = search needs
 loop-again : tie.Need-loop-again Inv-loop μ-loop
 loop-again c = search needs
 
-same-length : tie.Need-same-length Inv-loop μ-loop
-same-length c = search needs
-
 returns : tie.Need-returns Inv-loop μ-loop
 returns c = search needs
 
@@ -69,12 +62,11 @@ each-spec =
     (tie.spec
     Inv-loop
     μ-loop
-    fresh-requires
     loop-holds
-    sub-find
-    part-find-start
-    part-find-end
-    find-requires
+    sub-line-size
+    part-line-size-start
+    part-line-size-end
+    line-size-requires
     add-run
     sub-run
     part-run-start
@@ -84,5 +76,4 @@ each-spec =
     add-at-2
     loop-less
     loop-again
-    same-length
     returns)
