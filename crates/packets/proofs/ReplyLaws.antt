@@ -1,6 +1,6 @@
 -- Laws of replies: how long they are, and what stands in a buffer after their pieces were put into it.
 use mathlib.Core.Path.{_≡_, refl, sym, ap, _∙_}
-use mathlib.Core.Bool.{Bool, true, false, cond, not, _&&_}
+use mathlib.Core.Bool.{Bool, true, false, cond, not, _&&_, and-false}
 use mathlib.Core.Logic.{inr}
 use mathlib.Core.List.{List, [], _∷_, _++_, append-assoc, append-nil}
 use Prim.Native.Nat.{ℕ, _+_, _-_, _^_, _<_, _≤_, min}
@@ -151,10 +151,6 @@ length-replied k h status d out =
     (second-true (ltb (carriedCount h status (length d)) (256 ^ 3)) (leb (replyLength k h status (length d)) (length out)) e) in
     omega (arith, length-reply k h status d))
 
-never : (a : Bool) → (a && false) ≡ false
-never true = refl
-never false = refl
-
 -- where not all of n bytes are in the place of the data, a reply with n of them has no room, and neither has one with those that are there
 pub around-fits : (k : Path) (h : Header) (status n : ℕ) (out : List ℕ)
     → replyFits k h status (length (part (dataPlace k) n out)) (length out) ≡ replyFits k h status n (length out)
@@ -175,7 +171,7 @@ around-fits k h status n out = go (isWrite (h .instruction)) (eqb status 0) (dec
         let less = lt-of-not-le d in
         let l : there ≡ min n (length out - dataPlace k) = simp (length-take, length-drop) in
         rw (lt-leb (length (pathBytes k) + (13 + there)) (length out) (omega (arith, l, less)), lt-leb (length (pathBytes k) + (13 + n)) (length out) (omega (arith, less)))
-        (never (ltb there (256 ^ 3)) ∙ sym (never (ltb n (256 ^ 3))))
+        (and-false (ltb there (256 ^ 3)) ∙ sym (and-false (ltb n (256 ^ 3))))
 
 -- ---- the writer: m bytes of data are carried, of n; t is its test of them
 
