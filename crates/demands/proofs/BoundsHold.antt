@@ -33,15 +33,16 @@ use Rattle.unit.specs.declared.unit.Unit.{Unit as TheUnit}
 use Rattle.packets.proofs.ReadingLaws.{header-whole}
 use Rattle.unit.proofs.CallLaws.{packet-length}
 use Rattle.unit.proofs.DecideLaws.{write-bit, memory-passed, span-passed}
-use Rattle.unit.proofs.UsableLaws.{alone, usable-packet, code-with-memory, ticks-with-memory}
+use Rattle.unit.proofs.UnitLaws.{SetUpAs}
+use Rattle.unit.proofs.UsableLaws.{alone, packet-set-up, code-set-up, ticks-set-up, packet-with-memory, code-with-memory, ticks-with-memory}
 use Rattle.unit.proofs.PlanLaws.{memoryActionIn}
 use Rattle.unit.proofs.CommandLaws.{takeCommand, packet-is, command-is}
 use Rattle.unit.proofs.GrantLaws.{authorised-window}
 use Rattle.unit.proofs.MemoryLaws.{memory-outside, storing-kind}
 use Rattle.demands.proofs.NumbersHold.{one-two-three, small-rows}
-use Rattle.demands.specs.Terminal.{ours, IsCommand, Call, packet, timeCode, ticks, answerTo, after, fatesOf}
+use Rattle.demands.specs.Terminal.{ours, IsCommand, Call, packet, timeCode, ticks, answerTo, after}
 use Rattle.demands.specs.Refusals.{SmallRow, ByCode, ByTicks}
-use Rattle.demands.specs.Bounds.{WindowForWriting, OnlyInWindow, NeverStrays, Lends, StaysUsable, ComesBack}
+use Rattle.demands.specs.Bounds.{WindowForWriting, OnlyInWindow, NeverStrays, SetUpStays, OfBytes, StaysUsable, Lends, ComesBack}
 
 -- ---- memory
 
@@ -64,6 +65,11 @@ held kind at size (w ∷ ws) k e = go (holds w at size) (hasRight kind w) refl (
     go true true f right e rest = rw (right f)
     go true false f right e rest = rw (rest e) (or-true (w .write))
     go false b f right e rest = rest e
+
+-- a command that may store has the write bit, or is an RMW
+pub storing-bit : (h : Header) → (kindIn h ≡ Write) ⊎ (kindIn h ≡ ReadModifyWrite) → (isWrite (h .instruction) || isRmw (kindIn h)) ≡ true
+storing-bit h (inl k) = rw (write-bit h k)
+storing-bit h (inr k) = rw k (or-true (isWrite (h .instruction)))
 
 module _ (u : TheUnit) (p : Arrived) (lent : Lent) (works : usable u (length (lent .memory)) ≡ true) (h : Header)
     (read : readPacket (p .packet) (u .number) .reading ≡ Command h) where
@@ -90,16 +96,12 @@ module _ (u : TheUnit) (p : Arrived) (lent : Lent) (works : usable u (length (le
           held (kindIn h) (h .address) (spanSize h) (used (u .windows)) k
           (authorised-window (u .windows) h (span-passed (u .windows) h (memory-passed u h path (p .link) e a) .1))
 
-      stores : (kindIn h ≡ Write) ⊎ (kindIn h ≡ ReadModifyWrite) → (isWrite (h .instruction) || isRmw (kindIn h)) ≡ true
-      stores (inl k) = rw (write-bit h k)
-      stores (inr k) = rw k (or-true (isWrite (h .instruction)))
-
       go : (left ≡ lent .memory) ⊎ ((kindIn h ≡ Write) ⊎ (kindIn h ≡ ReadModifyWrite)) → Dec (h .address ≤ i)
           → Dec (h .address + spanSize h ≤ i) → there i
       go (inl same) b l = absurd (other (ap (λ (x : List ℕ). getD x i 0) same))
       go (inr k) (no b) l = absurd (outside (inl (lt-of-not-le b)))
       go (inr k) (yes b) (yes l) = absurd (outside (inr l))
-      go (inr k) (yes b) (no l) = (h, read, e, stores k, b, lt-of-not-le l, window k)
+      go (inr k) (yes b) (no l) = (h, read, e, storing-bit h k, b, lt-of-not-le l, window k)
 
   command-strays : OnlyInWindow u p lent (takeCommand u h path p lent)
   command-strays =
@@ -122,16 +124,29 @@ never-strays u p lent = (
 
 -- ---- histories
 
--- usable with a memory, call by call
-usable-call : (u : TheUnit) (n : ℕ) (c : Call) → usable u n ≡ true → Lends n c → usable (answerTo ours u c .unit) n ≡ true
-usable-call u n (packet p lent) e l = rw (l .0) at (usable-packet u p lent (l .1) (rw (l .0) e))
-usable-call u n (timeCode byte) e l = code-with-memory u n byte e
-usable-call u n (ticks count) e l = ticks-with-memory u n count e
+-- call by call: what the unit was set up with, and what it is usable with
+call-set-up : (u : TheUnit) (c : Call) → SetUpAs u (answerTo ours u c .unit)
+call-set-up u (packet p lent) = packet-set-up u p lent
+call-set-up u (timeCode byte) = code-set-up u byte
+call-set-up u (ticks count) = ticks-set-up u count
+
+usable-call : (u : TheUnit) (n : ℕ) (c : Call) → OfBytes c → usable (answerTo ours u c .unit) n ≡ usable u n
+usable-call u n (packet p lent) b = packet-with-memory u n p lent b
+usable-call u n (timeCode byte) b = code-with-memory u n byte
+usable-call u n (ticks count) b = ticks-with-memory u n count
+
+pub set-up-stays : SetUpStays ours
+unfolding after
+set-up-stays u [] = (refl, refl, refl, refl, refl)
+set-up-stays u (c ∷ cs) =
+    let first = call-set-up u c in
+    let rest = set-up-stays (answerTo ours u c .unit) cs in
+    (rest .0 ∙ first .0, rest .1 ∙ first .1, rest .2 ∙ first .2, rest .3 ∙ first .3, rest .4 ∙ first .4)
 
 pub stays-usable : StaysUsable ours
 unfolding after
-stays-usable u n [] e l = e
-stays-usable u n (c ∷ cs) e l = stays-usable (answerTo ours u c .unit) n cs (usable-call u n c e (l .0)) (l .1)
+stays-usable u n [] b = refl
+stays-usable u n (c ∷ cs) b = stays-usable (answerTo ours u c .unit) n cs (b .1) ∙ usable-call u n c (b .0)
 
 -- 1 is for a unit that is not usable
 small-usable : (Moved : Clock → Type 0) (u : TheUnit) (n : ℕ) (a : Answer) → usable u n ≡ true → SmallRow Moved u a → fateNumber (a .fate) ≢ 1
@@ -139,12 +154,9 @@ small-usable Moved u n a e (inl s) one = false≢true (sym (s .0) ∙ alone u n 
 small-usable Moved u n a e (inr s) one = let zero = s .1 in absurd (omega (arith, zero, one))
 
 not-one : (u : TheUnit) (n : ℕ) (c : Call) → usable u n ≡ true → Lends n c → fateNumber (answerTo ours u c .fate) ≢ 1
-not-one u n (packet p lent) e l one = false≢true (sym (one-two-three u p lent .0 .0 one) ∙ rw (l .0) e)
-not-one u n (timeCode byte) e l one = small-usable (ByCode byte) u n (takeTimeCode u byte) e (small-rows .0 u byte) one
-not-one u n (ticks count) e l one = small-usable (ByTicks u) u n (takeTicks u count) e (small-rows .1 u count) one
+not-one u n (packet p lent) e l one = false≢true (sym (one-two-three u p lent .0 .0 one) ∙ rw l e)
+not-one u n (timeCode byte) e l one = small-usable (ByCode u byte) u n (takeTimeCode u byte) e (small-rows .0 u byte) one
+not-one u n (ticks count) e l one = small-usable (ByTicks u count) u n (takeTicks u count) e (small-rows .1 u count) one
 
 pub comes-back : ComesBack ours
-unfolding fatesOf
-comes-back u n [] e l = tt
-comes-back u n (c ∷ cs) e l =
-    (not-one u n c e (l .0), comes-back (answerTo ours u c .unit) n cs (usable-call u n c e (l .0)) (l .1))
+comes-back u n before c e b l = not-one (after ours u before) n c (stays-usable u n before b ∙ e) l

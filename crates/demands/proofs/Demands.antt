@@ -4,8 +4,8 @@ use Rattle.demands.specs.Demands.{Demand1, Demand2, Demand3, Histories, 
 use Rattle.demands.proofs.RefusalsHold.{row-by-row}
 use Rattle.demands.proofs.NumbersHold.{one-two-three, small-rows, listed}
 use Rattle.demands.proofs.RowsReached.{no-row-empty}
-use Rattle.demands.proofs.BoundsHold.{never-strays, stays-usable, comes-back}
-use Rattle.demands.proofs.MeaningHolds.{byte-by-byte, refused-changes-none}
+use Rattle.demands.proofs.BoundsHold.{never-strays, set-up-stays, stays-usable, comes-back}
+use Rattle.demands.proofs.MeaningHolds.{byte-by-byte, only-stores-change, refused-changes-none}
 use Rattle.demands.proofs.OwnableHolds.{ownable-is-owners, owner-is-swapped, fields-are-owners, others-stay}
 use Rattle.demands.proofs.RepliesHold.{replies}
 use Rattle.demands.proofs.ListsHold.{merges}
@@ -13,10 +13,10 @@ use Rattle.demands.proofs.CountsHold.{counters-are-history, low-count-n
 use Rattle.demands.proofs.NamesHold.{rows-kept, missing-refused, missing-is-f1, obeyed-in-window}
 
 pub demand-1 : Demand1 ours
-demand-1 = (row-by-row, one-two-three, small-rows, listed, no-row-empty, never-strays, stays-usable, comes-back)
+demand-1 = (row-by-row, one-two-three, small-rows, listed, no-row-empty, never-strays, set-up-stays, stays-usable, comes-back)
 
 pub demand-2 : Demand2 ours
-demand-2 = (byte-by-byte, refused-changes-none, ownable-is-owners, owner-is-swapped, fields-are-owners, others-stay, replies)
+demand-2 = (byte-by-byte, only-stores-change, refused-changes-none, ownable-is-owners, owner-is-swapped, fields-are-owners, others-stay, replies)
 
 pub demand-3 : Demand3 ours
 demand-3 = merges

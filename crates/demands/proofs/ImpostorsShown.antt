@@ -1,18 +1,24 @@
 -- No impostor gets by: for each a witness that computes.
 use mathlib.Core.Path.{_≡_, refl, sym, _∙_, ap}
-use mathlib.Core.Bool.{true, false, _&&_, and-false, or-false}
+use mathlib.Core.Bool.{true, false, _&&_, and-false, or-false, false≢true}
+use mathlib.Core.Logic.{_⊎_, inl, inr}
 use mathlib.Core.List.{List, [], _∷_}
 use Prim.Native.Nat.{ℕ, _^_, _<_}
 use native.Mathlib.Omega.{arith}
-use borrow.Author.Tests.{ltb-true, leb-true, lt-leb, le-ltb}
-use lib.Dec.{leb, ltb}
-use lib.ListN.{getD}
+use borrow.Author.Tests.{ltb-true, leb-true, lt-leb, le-ltb, ne-eqb}
+use lib.Dec.{eqb, leb, ltb}
+use lib.ListN.{length, getD}
 use Rattle.octets.specs.Crc.{crc, mirrored, bits, remainder, message, modulo}
 use Rattle.octets.proofs.PlaceLaws.{first-true, second-true}
 use Rattle.packets.specs.Instruction.{kindOf}
 use Rattle.packets.specs.Path.{withoutLeadingZeros, orOneZero, pathOf}
+use Rattle.packets.specs.Header.{partsAt}
 use Rattle.packets.specs.Reading.{readCommand, readProtocol, readPacket}
 use Rattle.packets.specs.Reply.{replyWith, replyLength, replied}
+use Rattle.packets.specs.declared.header.Header.{Header}
+use Rattle.packets.specs.declared.reading.Reading.the-variants.{Refused, Command}
+use Rattle.packets.specs.declared.reading.Refusal.the-variants.{HeaderCrc}
+use Rattle.packets.proofs.ReadingLaws.{one-command, not-command}
 use Rattle.unit.specs.Fate.{fateNumber, fateStatus}
 use Rattle.unit.specs.Counters.{total, countedFor}
 use Rattle.unit.specs.Usable.{usableUnit, usable}
@@ -20,15 +26,26 @@ use Rattle.unit.specs.Decide.{openingStatus, spanSize, isAuthorised, spanStatus
 use Rattle.unit.specs.Plan.{replyCount, plannedFor, decidedByData, decidedOn}
 use Rattle.unit.specs.Judge.{judged}
 use Rattle.unit.specs.Act.{stored, dataFor, repliedTo, changed}
+use Rattle.unit.specs.Given.{Arrived, Lent}
 use Rattle.unit.specs.Calls.{Outcome, takePacket}
+use Rattle.unit.specs.declared.unit.Unit.{Unit as TheUnit}
+use Rattle.unit.specs.declared.fate.Status.the-variants.{Success}
+use Rattle.unit.specs.declared.fate.Fate.the-variants.{Replied}
 use Rattle.unit.specs.declared.fate.Told.the-variants.{Byte}
-use Rattle.demands.proofs.Witnesses.{unit, memory, buffer, arrived, lent, write-0, write-4, read-past}
-use Rattle.demands.specs.Terminal.{Call, packet, after, fatesOf}
-use Rattle.demands.specs.Meaning.{ByteByByte}
+use Rattle.demands.proofs.Witnesses.{unit, memory, shorter, buffer, arrived, lent, write-0, write-0-bytes, write-4, read-past, wrong-crc}
+use Rattle.demands.specs.Terminal.{IsCommand, pathIn, Call, packet, timeCode, ticks, answerTo, after, fatesOf}
+use Rattle.demands.specs.ReplyDue.{replyDue}
+use Rattle.demands.specs.Refusals.{Leaves, RowByRow}
+use Rattle.demands.specs.Bounds.{OfBytes, Lends, StaysUsable}
+use Rattle.demands.specs.Meaning.{ByteByByte, StoresWith, OnlyStoresChange}
 use Rattle.demands.specs.Lists.{one, other, neither, fromOne, fromOther, Sent, State, heard, ends, refers, isStore, stores, Clear, Apart, Merge, Side, Merges}
 use Rattle.demands.specs.Counts.{countOf, countOfAll, Counting, counted, CountersAreHistory}
-use Rattle.demands.specs.Impostors.{refusesAll, doesNothing, repliesZero, obeysFirst, inventsCounters, ImpostorsShutOut, ThreeAloneLetsBy}
+use Rattle.demands.specs.Impostors.{refusesAll, doesNothing, repliesZero, obeysFirst, inventsCounters, repliesNothing, givesUp, clearsMemory, ImpostorsShutOut, ThreeAloneLetsBy, SomeReplyLetsBy, OneLengthLetsBy, RefusedAloneLetsBy}
 use Rattle.demands.proofs.NamesHold.{byte-in}
+use Rattle.demands.proofs.NumbersHold.{one-two-three}
+use Rattle.demands.proofs.MeaningHolds.{refused-changes-none}
+use Rattle.unit.proofs.UsableLaws.{packet-with-memory, code-with-memory, ticks-with-memory}
+use Rattle.unit.proofs.CommandLaws.{packet-is, command-fate}
 
 abbrev x : Sent
 x = record { arrived = arrived write-0 1; buffer = buffer }
@@ -59,8 +76,14 @@ computed :
     -- the total after one packet
     × (getD (after inventsCounters (unit 0) history .counters) total 0 ≡ 7)
     × (counted (getD (unit 0 .counters) total 0) (countOfAll (fatesOf inventsCounters (unit 0) history)) ≡ 1)
+    -- usable with eight bytes before four were lent, and not after
+    × (usable (unit 0) 8 ≡ true)
+    × (usable (after givesUp (unit 0) (packet (arrived write-0 1) (lent shorter buffer) ∷ [])) 8 ≡ false)
+    -- a wrong header CRC, and memory
+    × (readPacket wrong-crc 0xF0 .reading ≡ Refused HeaderCrc)
+    × (getD (clearsMemory .packet (unit 0) (arrived wrong-crc 1) (lent memory buffer) .memory) 0 0 ≡ 0)
 unfolding takePacket judged decidedOn decidedByData plannedFor headerStatus openingStatus spanStatus spanSize isAuthorised wantedCount dataStatus replyCount stored dataFor repliedTo changed countedFor usable usableUnit readPacket readProtocol readCommand kindOf withoutLeadingZeros orOneZero pathOf replyLength replied replyWith crc mirrored bits remainder message modulo ends after fatesOf countOf
-computed = (refl, refl, refl, refl, refl, refl, refl, refl, refl, refl)
+computed = (refl, refl, refl, refl, refl, refl, refl, refl, refl, refl, refl, refl, refl, refl)
 
 -- ---- demand 2 shuts out the first three
 
@@ -144,6 +167,71 @@ invents-counters-shut-out history-of =
     let e = history-of (unit 0) history words .1 in
     omega (arith, e, computed .8, computed .9)
 
+-- ---- a reply that is only claimed
+
+-- the write is replied to with status 0, and that reply has eight bytes
+due : (h : Header) → readPacket write-0 0xF0 .reading ≡ Command h → length (replyDue (unit 0) (arrived write-0 1) (lent memory buffer) h Success) ≡ 8
+unfolding takePacket judged decidedOn decidedByData plannedFor headerStatus openingStatus spanStatus spanSize isAuthorised wantedCount dataStatus replyCount stored dataFor repliedTo changed countedFor usable usableUnit readPacket readProtocol readCommand kindOf withoutLeadingZeros orOneZero pathOf replyLength replied replyWith crc mirrored bits remainder message modulo
+due h is =
+    let same = one-command (readPacket write-0 0xF0 .reading) (partsAt write-0 4) h refl is in
+    let eight : length (replyDue (unit 0) (arrived write-0 1) (lent memory buffer) (partsAt write-0 4) Success) ≡ 8 = refl in
+    ap (λ (k : Header). length (replyDue (unit 0) (arrived write-0 1) (lent memory buffer) k Success)) same ∙ eight
+
+replies-nothing-shut-out : RowByRow repliesNothing → ⊥
+unfolding takePacket judged decidedOn decidedByData plannedFor headerStatus openingStatus spanStatus spanSize isAuthorised wantedCount dataStatus replyCount stored dataFor repliedTo changed countedFor usable usableUnit readPacket readProtocol readCommand kindOf withoutLeadingZeros orOneZero pathOf replyLength replied replyWith crc mirrored bits remainder message modulo
+replies-nothing-shut-out meets =
+    let row : Leaves (Replied Success) (unit 0) (arrived write-0 1) (lent memory buffer) (repliesNothing .packet (unit 0) (arrived write-0 1) (lent memory buffer)) =
+    meets (unit 0) (arrived write-0 1) (lent memory buffer) write-0-bytes in
+    let reply = row .2 in
+    omega (arith, reply .3 .1, due (reply .0) (reply .1))
+
+-- ---- one that never gets over 1
+
+gives-up-shut-out : StaysUsable givesUp → ⊥
+gives-up-shut-out stays =
+    let e = stays (unit 0) 8 (packet (arrived write-0 1) (lent shorter buffer) ∷ []) (write-0-bytes, tt) in
+    false≢true (sym (computed .11) ∙ e ∙ computed .10)
+
+-- ---- memory changed by what is no command
+
+clears-memory-shut-out : OnlyStoresChange clearsMemory → ⊥
+clears-memory-shut-out only = go (only (unit 0) (arrived wrong-crc 1) (lent memory buffer))
+  where
+    o : Outcome
+    o = clearsMemory .packet (unit 0) (arrived wrong-crc 1) (lent memory buffer)
+
+    go : (o .memory ≡ memory) ⊎ ((h : Header) × IsCommand (unit 0) (arrived wrong-crc 1) h × (h .protocol ≡ 0x01) × StoresWith h (fateStatus (o .answer .fate))) → ⊥
+    go (inl same) = let e = ap (λ (m : List ℕ). getD m 0 0) same in omega (arith, e, computed .13)
+    go (inr stores) = not-command (Refused HeaderCrc) (omega arith) (sym (computed .12) ∙ stores .1)
+
+-- ---- what let the last three by
+
+pub some-reply-lets-by : SomeReplyLetsBy
+some-reply-lets-by u p lent = ([], (refl, refl, omega arith))
+
+-- lent n bytes it gets no 1, and does as ours
+call-lets-by : (u : TheUnit) (n : ℕ) (c : Call) → usable u n ≡ true → OfBytes c → Lends n c → usable (answerTo givesUp u c .unit) n ≡ true
+call-lets-by u n (packet p lent) e b l =
+    let not-one = ne-eqb (fateNumber (takePacket u p lent .answer .fate)) 1 (λ one. false≢true (sym (one-two-three u p lent .0 .0 one) ∙ rw l e)) in
+    rw not-one (packet-with-memory u n p lent b ∙ e)
+call-lets-by u n (timeCode byte) e b l = code-with-memory u n byte ∙ e
+call-lets-by u n (ticks count) e b l = ticks-with-memory u n count ∙ e
+
+pub one-length-lets-by : OneLengthLetsBy
+unfolding after
+one-length-lets-by u n [] e l = e
+one-length-lets-by u n (c ∷ cs) e l = one-length-lets-by (answerTo givesUp u c .unit) n cs (call-lets-by u n c e (l .0 .0) (l .0 .1)) (l .1)
+
+-- a command never has the fate 15
+not-fifteen : (u : TheUnit) (p : Arrived) (lent : Lent) (h : Header) → IsCommand u p h → eqb (fateNumber (takePacket u p lent .answer .fate)) 15 ≡ false
+not-fifteen u p lent h is =
+    packet-is u p lent (λ o. eqb (fateNumber (o .answer .fate)) 15 ≡ false) (λ e. refl) (λ e f. refl)
+    (λ e f why g. absurd (not-command (Refused why) (omega arith) (sym g ∙ is))) (λ e f g. refl) (λ e f g t. refl)
+    (λ e f k g. command-fate u k (pathIn u p) p lent (λ f. eqb (fateNumber f) 15 ≡ false) refl (λ s. refl) (λ s e. refl) refl)
+
+pub refused-alone-lets-by : RefusedAloneLetsBy
+refused-alone-lets-by u p lent h is guarded status = rw (not-fifteen u p lent h is) (refused-changes-none u p lent h is guarded status)
+
 pub impostors-shut-out : ImpostorsShutOut
 impostors-shut-out = (
   refuses-all-shut-out,
@@ -152,4 +240,7 @@ impostors-shut-out = (
   obeys-first-shut-out,
   obeys-first-does-not-merge,
   invents-counters-shut-out,
+  replies-nothing-shut-out,
+  gives-up-shut-out,
+  clears-memory-shut-out,
 )

@@ -16,3 +16,4 @@ pub mod CasesHold
 pub mod OutcomesHold
 pub mod Witnesses
 pub mod ImpostorsShown
+pub mod OnlyOurs

@@ -1,7 +1,7 @@
--- Demand 2 holds: what the definitions give is what the code promises, and a refused verified write or RMW stores nothing.
-use mathlib.Core.Path.{_≡_, refl, _∙_, ap}
+-- Demand 2 holds: what the definitions give is what the code promises, and memory changes by a store with a status that allows it, or not at all.
+use mathlib.Core.Path.{_≡_, refl, sym, _∙_, ap}
 use mathlib.Core.Bool.{Bool, true, false, cond, not, _&&_, _||_, false≢true}
-use mathlib.Core.Logic.{_≢_}
+use mathlib.Core.Logic.{_⊎_, inl, inr}
 use mathlib.Core.List.{List}
 use Prim.Native.Nat.{ℕ}
 use borrow.Author.Tests.{eqb-true}
@@ -14,22 +14,26 @@ use Rattle.packets.specs.declared.header.Header.{Header}
 use Rattle.packets.specs.declared.path.Path.{Path}
 use Rattle.unit.specs.Fate.{byteOf, isSuccess, fateStatus}
 use Rattle.unit.specs.Given.{Arrived, Lent}
-use Rattle.unit.specs.Decide.{allAtHand, dataCount, dataStatusOf}
+use Rattle.unit.specs.Decide.{wantedCount, allAtHand, dataCount, dataStatusOf}
+use Rattle.unit.specs.Plan.{unansweredFate}
 use Rattle.unit.specs.Act.{stored}
-use Rattle.unit.specs.Calls.{Outcome}
+use Rattle.unit.specs.Calls.{Outcome, takePacket}
 use Rattle.unit.specs.declared.fate.Status.{Status}
+use Rattle.unit.specs.declared.fate.Fate.{Fate}
 use Rattle.unit.specs.declared.fate.Fate.the-variants.{NotObeyed, Obeyed, Replied}
+use Rattle.unit.specs.declared.fate.Told.{Told}
 use Rattle.unit.specs.declared.fate.Told.the-variants.{Byte}
 use Rattle.unit.specs.declared.unit.Unit.{Unit as TheUnit}
-use Rattle.unit.proofs.DecideLaws.{writes, write-bit-is}
+use Rattle.unit.proofs.DecideLaws.{writes, write-bit-is, data-refuses}
 use Rattle.unit.proofs.PlanLaws.{memoryActionIn}
 use Rattle.unit.proofs.CommandLaws.{takeCommand, packet-is, command-is}
 use Rattle.unit.proofs.CallLaws.{as-judged}
-use Rattle.unit.proofs.MemoryLaws.{refused-stores}
+use Rattle.unit.proofs.MemoryLaws.{storing-kind, refused-stores}
 use Rattle.packets.proofs.ReadingLaws.{one-command}
-use Rattle.demands.specs.Terminal.{ours}
+use Rattle.demands.proofs.BoundsHold.{storing-bit}
+use Rattle.demands.specs.Terminal.{ours, IsCommand, pathIn}
 use Rattle.demands.specs.Refusals.{writtenTo}
-use Rattle.demands.specs.Meaning.{ByteByByte, PacketPromise, TimeCodePromise, TicksPromise, JudgePromise, AsJudged, RefusedChangesNone}
+use Rattle.demands.specs.Meaning.{ByteByByte, PacketPromise, TimeCodePromise, TicksPromise, JudgePromise, AsJudged, StoresWith, OnlyStoresChange, RefusedChangesNone}
 
 pub byte-by-byte : ByteByByte ours
 byte-by-byte = (λ u p lent. refl, λ u byte. refl, λ u count. refl)
@@ -51,53 +55,92 @@ told-as-judged u p lent = as-judged u p lent
 
 -- ---- refused, and memory unchanged
 
--- a status other than 0
-not-zero : (s : Status) → fateStatus (Replied s) ≢ Byte 0 → isSuccess s ≡ false
-not-zero s other = go (isSuccess s) refl
-  where
-    go : (t : Bool) → isSuccess s ≡ t → isSuccess s ≡ false
-    go true e = absurd (other (ap Byte (eqb-true (byteOf s) 0 e)))
-    go false e = e
+-- a command refused by its data stores where it is a write without verify, and one that is obeyed where it is a write or an RMW
+module _ (u : TheUnit) (p : Arrived) (lent : Lent) (h : Header) (read : IsCommand u p h) where
+  abbrev Changes : Outcome → Type 0
+  Changes o =
+      (o .memory ≡ lent .memory)
+      ⊎ ((h : Header) × IsCommand u p h × (h .protocol ≡ 0x01) × StoresWith h (fateStatus (o .answer .fate)))
 
-module _ (u : TheUnit) (p : Arrived) (lent : Lent) where
-  abbrev KeepsMemory : Outcome → Type 0
-  KeepsMemory o = fateStatus (o .answer .fate) ≢ Byte 0 → o .memory ≡ lent .memory
+  abbrev path : Path
+  path = pathIn u p
 
-  command-keeps : (h : Header) (path : Path) → ((isWrite (h .instruction) && isVerified (h .instruction)) || isRmw (kindIn h)) ≡ true
-      → KeepsMemory (takeCommand u h path p lent)
-  command-keeps h path guarded =
-      command-is u h path p lent KeepsMemory (λ n. refl) (λ e. (λ w n. refl, λ w n. refl)) (λ e a. (λ w n. kept (not-zero status n), λ w n. silent (isSuccess status) refl n))
-      (λ e a. (λ w n. refl, λ w n. refl))
+  abbrev status : Status
+  status = dataStatusOf h p
+
+  abbrev left : List ℕ
+  left = stored (memoryActionIn h p) (p .packet) (lent .memory)
+
+  obeyed : isSuccess status ≡ true → (left ≡ lent .memory) ⊎ StoresWith h (Byte (byteOf status))
+  obeyed f =
+      go (storing-kind (kindIn h) h status (p .packet) (lent .memory) (headerSize (h .instruction)) (dataCount h (allAtHand h p)))
     where
-      m : List ℕ
-      m = lent .memory
+      go : (left ≡ lent .memory) ⊎ ((kindIn h ≡ Write) ⊎ (kindIn h ≡ ReadModifyWrite)) → (left ≡ lent .memory) ⊎ StoresWith h (Byte (byteOf status))
+      go (inl same) = inl same
+      go (inr k) = inr (inl (storing-bit h k, ap Byte (eqb-true (byteOf status) 0 f)))
 
-      status : Status
-      status = dataStatusOf h p
+  refused : isSuccess status ≡ false → (left ≡ lent .memory) ⊎ StoresWith h (Byte (byteOf status))
+  refused f = go (isWrite (h .instruction)) (isVerified (h .instruction)) refl refl
+    where
+      stores : left ≡ cond (isWrite (h .instruction) && not (isVerified (h .instruction))) (writtenTo h p lent) (lent .memory)
+      stores =
+          refused-stores (kindIn h) h status (p .packet) (lent .memory) (headerSize (h .instruction)) (dataCount h (allAtHand h p)) f ∙ rw (write-bit-is h)
 
-      n : List ℕ
-      n = stored (memoryActionIn h p) (p .packet) m
+      go : (w v : Bool) → isWrite (h .instruction) ≡ w → isVerified (h .instruction) ≡ v → (left ≡ lent .memory) ⊎ StoresWith h (Byte (byteOf status))
+      go false v e g = inl (rw e at stores)
+      go true true e g = inl (rw (e, g) at stores)
+      go true false e g =
+          inr (inr (e, g, (byteOf status, refl, data-refuses (dataCount h (allAtHand h p)) (allAtHand h p .dataCrc) (wantedCount h) (p .end) f)))
 
-      kept : isSuccess status ≡ false → n ≡ m
-      kept f =
-          refused-stores (kindIn h) h status (p .packet) m (headerSize (h .instruction)) (dataCount h (allAtHand h p)) f ∙ go (kindIn h) (isVerified (h .instruction)) (rw (write-bit-is h) at guarded)
-        where
-          new : List ℕ
-          new = writtenTo h p lent
+  -- with a reply or without one
+  told : h .protocol ≡ 0x01 → (fate : Fate) → fateStatus fate ≡ Byte (byteOf status) → (left ≡ lent .memory) ⊎ StoresWith h (Byte (byteOf status))
+      → (left ≡ lent .memory) ⊎ ((h : Header) × IsCommand u p h × (h .protocol ≡ 0x01) × StoresWith h (fateStatus fate))
+  told e fate s (inl same) = inl same
+  told e fate s (inr with) = inr (h, read, e, rw s with)
 
-          go : (kind : Kind) (v : Bool) → ((writes kind && v) || isRmw kind) ≡ true → cond (writes kind && not v) new m ≡ m
-          go Unused v e = refl
-          go Read v e = refl
-          go ReadModifyWrite v e = refl
-          go Write true e = refl
-          go Write false e = absurd (false≢true e)
+  command-changes : Changes (takeCommand u h path p lent)
+  command-changes =
+      command-is u h path p lent Changes (inl refl) (λ e. (λ w. inl refl, λ w. inl refl))
+      (λ e a. (λ w. told e (Replied status) refl by-status, λ w. told e (unansweredFate status) (silent (isSuccess status) refl) by-status))
+      (λ e a. (λ w. inl refl, λ w. inl refl))
+    where
+      go : (t : Bool) → isSuccess status ≡ t → (left ≡ lent .memory) ⊎ StoresWith h (Byte (byteOf status))
+      go true f = obeyed f
+      go false f = refused f
 
-      silent : (t : Bool) → isSuccess status ≡ t → fateStatus (cond t Obeyed (NotObeyed status)) ≢ Byte 0 → n ≡ m
-      silent true e other = absurd (other refl)
-      silent false e other = kept e
+      by-status : (left ≡ lent .memory) ⊎ StoresWith h (Byte (byteOf status))
+      by-status = go (isSuccess status) refl
+
+      silent : (t : Bool) → isSuccess status ≡ t → fateStatus (cond t Obeyed (NotObeyed status)) ≡ Byte (byteOf status)
+      silent true f = ap Byte (sym (eqb-true (byteOf status) 0 f))
+      silent false f = refl
+
+pub only-stores-change : OnlyStoresChange ours
+only-stores-change u p lent =
+    packet-is u p lent
+    (λ o. (o .memory ≡ lent .memory) ⊎ ((h : Header) × IsCommand u p h × (h .protocol ≡ 0x01) × StoresWith h (fateStatus (o .answer .fate))))
+    (λ e. inl refl) (λ e f. inl refl) (λ e f why g. inl refl) (λ e f g. inl refl) (λ e f g t. inl refl) (λ e f h g. command-changes u p lent h g)
+
+-- a verified write and an RMW store with status 0 alone
+guarded-zero : (h : Header) (told : Told) → ((isWrite (h .instruction) && isVerified (h .instruction)) || isRmw (kindIn h)) ≡ true → StoresWith h told
+    → told ≡ Byte 0
+guarded-zero h told guarded (inl s) = s .1
+guarded-zero h told guarded (inr s) = absurd (go (kindIn h) (rw (s .1, write-bit-is h) at guarded) (sym (write-bit-is h) ∙ s .0))
+  where
+    go : (kind : Kind) → ((writes kind && false) || isRmw kind) ≡ true → writes kind ≡ true → ⊥
+    go Unused e w = false≢true w
+    go Read e w = false≢true w
+    go ReadModifyWrite e w = false≢true w
+    go Write e w = false≢true e
 
 pub refused-changes-none : RefusedChangesNone ours
-refused-changes-none u p lent h is guarded =
-    packet-is u p lent (KeepsMemory u p lent) (λ e n. refl) (λ e f n. refl) (λ e f why g n. refl) (λ e f g n. refl) (λ e f g t n. refl)
-    (λ e f k g. command-keeps u p lent k (readPacket (p .packet) (u .number) .path)
-    (rw (one-command (readPacket (p .packet) (u .number) .reading) h k is g) guarded))
+refused-changes-none u p lent h is guarded other = go (only-stores-change u p lent)
+  where
+    go : (takePacket u p lent .memory ≡ lent .memory)
+        ⊎ ((h : Header) × IsCommand u p h × (h .protocol ≡ 0x01) × StoresWith h (fateStatus (takePacket u p lent .answer .fate)))
+        → takePacket u p lent .memory ≡ lent .memory
+    go (inl same) = same
+    go (inr stores) =
+        let k = stores .0 in
+        absurd (other (guarded-zero k (fateStatus (takePacket u p lent .answer .fate))
+        (rw (one-command (readPacket (p .packet) (u .number) .reading) h k is (stores .1)) guarded) (stores .3)))

@@ -109,8 +109,8 @@ code-last c v = code-is c v (λ k. k .last ≡ v) refl refl refl
 pub small-rows : SmallRows ours
 unfolding takeTimeCode takeTicks afterTicks
 small-rows = (
-  λ u byte. small-row (ByCode byte) u (afterCode (u .clock) (byte % 2 ^ 6)) (code-last (u .clock) (byte % 2 ^ 6)),
-  λ u count. small-row (ByTicks u) u (afterTicks (u .clock) count) (refl, refl),
+  λ u byte. small-row (ByCode u byte) u (afterCode (u .clock) (byte % 2 ^ 6)) (refl, code-last (u .clock) (byte % 2 ^ 6)),
+  λ u count. small-row (ByTicks u count) u (afterTicks (u .clock) count) (refl, refl, refl),
 )
 
 -- ---- the numbers and statuses

@@ -3,9 +3,9 @@ use mathlib.Core.Path.{_≡_, refl, sym, ap}
 use mathlib.Core.Bool.{Bool, true, false, cond, _||_, false≢true}
 use mathlib.Core.Logic.{_⊎_, inl, inr}
 use mathlib.Core.List.{List, [], _∷_}
-use Prim.Native.Nat.{ℕ, _<_}
+use Prim.Native.Nat.{ℕ, _+_, _*_, _/_, _%_, _^_, _<_}
 use borrow.Author.Tests.{eqb-true, eq-eqb}
-use lib.Dec.{eqb}
+use lib.Dec.{eqb, ltb}
 use Rattle.packets.specs.declared.instruction.Kind.the-variants.{ReadModifyWrite}
 use Rattle.packets.specs.Instruction.{isRmw}
 use Rattle.packets.specs.Header.{kindIn}
@@ -19,10 +19,10 @@ use Rattle.unit.specs.Some.{some}
 use Rattle.unit.specs.Fate.{isSuccess}
 use Rattle.unit.specs.Clock.{setAt, afterTime}
 use Rattle.unit.specs.Owner.{isOwner, unowned, swapped}
-use Rattle.unit.specs.Fields.{deviceId, missing, rowOf, valuesOf}
+use Rattle.unit.specs.Fields.{deviceId, missing, rowOf, valuesOf, dividerWritten}
 use Rattle.unit.specs.Given.{Arrived, Lent}
 use Rattle.unit.specs.Decide.{isAllowed, headerStatus}
-use Rattle.unit.specs.Act.{withOwner}
+use Rattle.unit.specs.Act.{withOwner, withFields}
 use Rattle.unit.specs.Calls.{takePacket}
 use Rattle.unit.specs.declared.clock.Clock.{Clock}
 use Rattle.unit.specs.declared.owner.Owner.{Owner}
@@ -32,12 +32,36 @@ use Rattle.unit.proofs.DecideLaws.{fields-passed, named-passed}
 use Rattle.unit.proofs.CommandLaws.{unit-is}
 use Rattle.packets.proofs.ReadingLaws.{protocol-other}
 use Rattle.demands.proofs.Below.{below}
-use Rattle.demands.proofs.RefusalsHold.{divider-only}
 use Rattle.demands.specs.Terminal.{ours, IsCommand, pathIn, Every}
-use Rattle.demands.specs.Refusals.{withOwnable}
-use Rattle.demands.specs.Meaning.{OwnersOrClaim, OwnableIsOwners, OwnerIsSwapped, shownBy, ownable, FieldsAreOwners, OthersStay}
+use Rattle.demands.specs.Meaning.{OwnersOrClaim, withOwnable, OwnableIsOwners, OwnerIsSwapped, shownBy, ownable, FieldsAreOwners, OthersStay}
 
 -- ---- what can be owned
+
+-- of a unit with what can be owned from another, that is the other's, and all else its own
+with-ownable : (u v : TheUnit)
+    → ((withOwnable u v .owner ≡ v .owner) × (withOwnable u v .clock .last ≡ v .clock .last) × (withOwnable u v .fields .divider ≡ v .fields .divider))
+    × ((withOwnable u v .logical ≡ u .logical)
+    × (withOwnable u v .key ≡ u .key)
+    × (withOwnable u v .number ≡ u .number)
+    × (withOwnable u v .links ≡ u .links)
+    × (withOwnable u v .windows ≡ u .windows)
+    × (withOwnable u v .counters ≡ u .counters))
+    × ((withOwnable u v .clock .elapsed ≡ u .clock .elapsed) × (withOwnable u v .clock .waiting ≡ u .clock .waiting))
+    × ((withOwnable u v .fields .vendor ≡ u .fields .vendor)
+    × (withOwnable u v .fields .version ≡ u .fields .version)
+    × (withOwnable u v .fields .status ≡ u .fields .status)
+    × (withOwnable u v .fields .active ≡ u .fields .active)
+    × (withOwnable u v .fields .information ≡ u .fields .information)
+    × (withOwnable u v .fields .maker ≡ u .fields .maker)
+    × (withOwnable u v .fields .serial ≡ u .fields .serial)
+    × (withOwnable u v .fields .base ≡ u .fields .base)
+    × (withOwnable u v .fields .range ≡ u .fields .range))
+with-ownable u v = (
+  (refl, refl, refl),
+  (refl, refl, refl, refl, refl, refl),
+  (refl, refl),
+  (refl, refl, refl, refl, refl, refl, refl, refl, refl),
+)
 
 -- a time packet leaves the last Time-Code
 last-stays : (w : When) (c : Clock) (t : TheTime) → setAt w c t .last ≡ c .last
@@ -163,6 +187,28 @@ others = 0 ∷ 1 ∷ 2 ∷ 3 ∷ 9 ∷ 10 ∷ 12 ∷ 13 ∷ []
 -- with those that can change they are the whole table
 other-row : (row : ℕ) → row < missing → some (eqb row) (4 ∷ ownable) ≡ false → some (eqb row) others ≡ true
 other-row row h e = rw e at (below (λ k. some (eqb k) (4 ∷ ownable) || some (eqb k) others) missing refl row h)
+
+divider-only : (u : TheUnit) (word : ℕ) → withFields u (dividerWritten (u .fields) word) ≡ withOwnable u (withFields u (dividerWritten (u .fields) word))
+unfolding dividerWritten
+divider-only u word = go (ltb (word % 2 ^ 16) (u .fields .range % 2 ^ 16) || ltb (u .fields .range / 2 ^ 16) (word % 2 ^ 16))
+  where
+    written : Bool → TheUnit
+    written t = withFields u (cond t (u .fields) (record {
+      vendor = u .fields .vendor;
+      version = u .fields .version;
+      status = u .fields .status;
+      active = u .fields .active;
+      information = u .fields .information;
+      maker = u .fields .maker;
+      serial = u .fields .serial;
+      base = u .fields .base;
+      range = u .fields .range;
+      divider = u .fields .divider / 2 ^ 16 * 2 ^ 16 + word % 2 ^ 16;
+    }))
+
+    go : (t : Bool) → written t ≡ withOwnable u (written t)
+    go true = refl
+    go false = refl
 
 -- of the fields' values the divider alone may differ
 fields-stay : (u : TheUnit) (p : Arrived) (lent : Lent)

@@ -1,12 +1,11 @@
 -- Demand 1, the table of numbers, holds: each of the ways that a packet can go leaves what its row says.
-use mathlib.Core.Path.{_≡_, refl, sym, _∙_, ap}
-use mathlib.Core.Bool.{Bool, true, false, cond, not, _&&_, _||_, false≢true, and-true, and-false}
+use mathlib.Core.Path.{_≡_, refl, sym, _∙_, ap, subst}
+use mathlib.Core.Bool.{Bool, true, false, cond, not, _&&_, false≢true, and-true, and-false}
 use mathlib.Core.Logic.{inl, inr}
 use mathlib.Core.List.{List, [], _∷_}
-use Prim.Native.Nat.{ℕ, _+_, _*_, _/_, _%_, _^_, min}
-use native.Mathlib.Omega.{arith}
+use Prim.Native.Nat.{ℕ, min}
 use borrow.Author.Tests.{eq-eqb, ne-eqb}
-use lib.Dec.{eqb, ltb}
+use lib.Dec.{eqb}
 use lib.ListN.{length}
 use Rattle.octets.specs.Numbers.{Digits}
 use Rattle.packets.specs.Instruction.{isWrite, isVerified, headerSize}
@@ -19,77 +18,46 @@ use Rattle.packets.specs.declared.path.Path.{Path}
 use Rattle.packets.specs.declared.reading.Refusal.{Refusal}
 use Rattle.packets.specs.declared.reading.Refusal.the-variants.{Incomplete, UnknownProtocol, ExtendedProtocol, Reply, HeaderCrc}
 use Rattle.unit.specs.Some.{some}
-use Rattle.unit.specs.Fate.{byteOf, isSuccess, fateNumber}
+use Rattle.unit.specs.Fate.{byteOf, isSuccess}
 use Rattle.unit.specs.Counters.{countedFor}
-use Rattle.unit.specs.Clock.{timeCodeWritten}
-use Rattle.unit.specs.Owner.{swapped}
-use Rattle.unit.specs.Fields.{dividerWritten}
 use Rattle.unit.specs.Usable.{usable}
 use Rattle.unit.specs.Given.{Arrived, Lent}
 use Rattle.unit.specs.Decide.{rmwCount, headerStatus, wantedCount, allAtHand, dataCount, dataStatusOf}
-use Rattle.unit.specs.Plan.{actionOf, memoryAction}
-use Rattle.unit.specs.Act.{stored, dataFor, changed, countedUnit, withClock, withCounters, withFields, withOwner}
+use Rattle.unit.specs.Plan.{actionOf, fieldActionOf, memoryAction}
+use Rattle.unit.specs.Act.{stored, dataFor, changed, countedUnit}
 use Rattle.unit.specs.Calls.{Outcome}
 use Rattle.unit.specs.declared.fate.Status.{Status}
-use Rattle.unit.specs.declared.fate.Fate.{Fate}
-use Rattle.unit.specs.declared.fate.Fate.the-variants.{Unread, Obeyed, Replied}
+use Rattle.unit.specs.declared.fate.Fate.the-variants.{Unread, Replied}
+use Rattle.unit.specs.declared.decide.Action.the-variants.{Nothing}
 use Rattle.unit.specs.declared.unit.Unit.{Unit as TheUnit}
-use Rattle.unit.proofs.ReplyLaws.{replyIn, reply-written}
-use Rattle.unit.proofs.CommandLaws.{takeCommand, packets-are, Answers, command-is, field-changes}
+use Rattle.unit.proofs.CommandLaws.{takeCommand, packets-are, Answers, command-is}
 use Rattle.unit.proofs.MemoryLaws.{nothing-stores, read-stores, rmw-stores, write-stores, refused-stores}
 use Rattle.unit.proofs.PlanLaws.{memoryActionIn, fieldActionIn}
 use Rattle.unit.proofs.DecideLaws.{writes, write-bit-is, header-gives, data-refuses}
-use Rattle.packets.proofs.ReadingLaws.{header-whole, protocol-other, length-below}
+use Rattle.packets.proofs.ReadingLaws.{protocol-other}
 use Rattle.demands.specs.Terminal.{ours, IsCommand, pathIn}
-use Rattle.demands.specs.Refusals.{countedAs, withOwnable, writtenTo, obeyedOn, refusedOn, statusDue, Written, Leaves, RowByRow}
+use Rattle.demands.specs.ReplyDue.{ReplyBytes}
+use Rattle.demands.specs.Refusals.{countedAs, obeyedBy, writtenTo, obeyedOn, refusedOn, statusDue, Leaves, RowByRow}
+use Rattle.demands.proofs.RepliesHold.{command-says}
 
--- ---- what a field command can change
+-- ---- what a field command makes of the unit
 
-code-only : (u : TheUnit) (word : ℕ) → withClock u (timeCodeWritten (u .clock) word) ≡ withOwnable u (withClock u (timeCodeWritten (u .clock) word))
-code-only u word = go (eqb word 0)
-  where
-    written : Bool → TheUnit
-    written t = withClock u (cond t (record { last = 0; elapsed = u .clock .elapsed; waiting = u .clock .waiting }) (u .clock))
+module _ (u : TheUnit) (h : Header) (p : Arrived) where
+  abbrev after : Bool → Kind → TheUnit
+  after t kind = changed (cond t (fieldActionOf kind h (p .packet) (headerSize (h .instruction))) Nothing) u (h .initiator) (pathIn u p) (p .link)
 
-    go : (t : Bool) → written t ≡ withOwnable u (written t)
-    go true = refl
-    go false = refl
+  obeyed-unit : (t : Bool) (kind : Kind) → t ≡ true → after t kind ≡ obeyedBy kind u h p
+  unfolding changed
+  obeyed-unit true Unused e = refl
+  obeyed-unit true Read e = refl
+  obeyed-unit true ReadModifyWrite e = refl
+  obeyed-unit true Write e = refl
+  obeyed-unit false kind e = absurd (false≢true e)
 
-pub divider-only : (u : TheUnit) (word : ℕ) → withFields u (dividerWritten (u .fields) word) ≡ withOwnable u (withFields u (dividerWritten (u .fields) word))
-unfolding dividerWritten
-divider-only u word = go (ltb (word % 2 ^ 16) (u .fields .range % 2 ^ 16) || ltb (u .fields .range / 2 ^ 16) (word % 2 ^ 16))
-  where
-    written : Bool → TheUnit
-    written t = withFields u (cond t (u .fields) (record {
-      vendor = u .fields .vendor;
-      version = u .fields .version;
-      status = u .fields .status;
-      active = u .fields .active;
-      information = u .fields .information;
-      maker = u .fields .maker;
-      serial = u .fields .serial;
-      base = u .fields .base;
-      range = u .fields .range;
-      divider = u .fields .divider / 2 ^ 16 * 2 ^ 16 + word % 2 ^ 16;
-    }))
-
-    go : (t : Bool) → written t ≡ withOwnable u (written t)
-    go true = refl
-    go false = refl
-
-replied-counted : (s : Status) (u : TheUnit) → countedUnit (Replied s) u ≡ countedAs 20 u
-unfolding countedFor
-replied-counted s u = refl
-
-obeyed-counted : (u : TheUnit) → countedUnit Obeyed u ≡ countedAs 18 u
-unfolding countedFor
-obeyed-counted u = refl
-
--- counted or not
-only-ownable : (number : ℕ) (f : Fate) (u v : TheUnit) → countedUnit f u ≡ countedAs number u → v ≡ withOwnable u v
-    → countedUnit f v ≡ countedAs number (withOwnable u (countedUnit f v))
-only-ownable number f u v c only =
-    ap (countedUnit f) only ∙ ap (λ (k : List ℕ). withCounters (withOwnable u v) k) (ap (λ (w : TheUnit). w .counters) c)
+  refused-unit : (t : Bool) (kind : Kind) → t ≡ false → after t kind ≡ u
+  unfolding changed
+  refused-unit true kind e = absurd (false≢true (sym e))
+  refused-unit false kind e = refl
 
 -- ---- what a command leaves in memory
 
@@ -127,9 +95,9 @@ module _ (u : TheUnit) (p : Arrived) (lent : Lent) (h : Header) (read : IsComman
   abbrev path : Path
   path = pathIn u p
 
-  -- where the fate is 20 the reply stands in the buffer
+  -- where the fate is 20 the reply that is due stands in the buffer
   abbrev Row : Outcome → Type 0
-  Row o = (fateNumber (o .answer .fate) ≡ 20 → Written lent o) → Leaves (o .answer .fate) u p lent o
+  Row o = ((s : Status) → o .answer .fate ≡ Replied s → ReplyBytes u p lent s o) → Leaves (o .answer .fate) u p lent o
 
   abbrev Rows : Status → TheUnit → List ℕ → List ℕ → Type 0
   Rows = Answers u h path p lent Row
@@ -141,7 +109,7 @@ module _ (u : TheUnit) (p : Arrived) (lent : Lent) (h : Header) (read : IsComman
   refused-row : (s : Status) (n d : List ℕ) → isSuccess s ≡ false → s ≡ statusDue u p h → n ≡ refusedOn h s p lent → Rows s u n d
   unfolding countedFor
   refused-row s n d e due memory = (
-    λ w written. (λ f. absurd (false≢true (sym e ∙ f)), λ f. (h, read, w, due, e, refl, memory), written refl),
+    λ w written. (λ f. absurd (false≢true (sym e ∙ f)), λ f. (h, read, w, due, e, refl, memory), written s refl),
     λ w. rw e (λ written. ((h, read, w, due, e, refl, memory), (refl, refl))),
   )
 
@@ -149,19 +117,21 @@ module _ (u : TheUnit) (p : Arrived) (lent : Lent) (h : Header) (read : IsComman
   memory-done : (s : Status) (n d : List ℕ) → isSuccess s ≡ true → s ≡ statusDue u p h → h .protocol ≡ 0x01 → n ≡ obeyedOn (kindIn h) h p lent → Rows s u n d
   unfolding countedFor
   memory-done s n d e due q memory = (
-    λ w written. (λ f. (h, read, w, rw due at e, inl (q, refl, memory)), λ f. absurd (false≢true (sym f ∙ e)), written refl),
+    λ w written. (λ f. (h, read, w, rw due at e, inl (q, refl, memory)), λ f. absurd (false≢true (sym f ∙ e)), written s refl),
     λ w. rw e (λ written. ((h, read, w, rw due at e, inl (q, refl, memory)), (refl, refl))),
   )
 
-  fields-done : (s : Status) (v : TheUnit) (d : List ℕ) → isSuccess s ≡ true → s ≡ statusDue u p h → (h .protocol ≡ 0x01 → ⊥) → v ≡ withOwnable u v → Rows s v (lent .memory) d
-  fields-done s v d e due q only = (
+  fields-done : (s : Status) (v : TheUnit) (d : List ℕ) → isSuccess s ≡ true → s ≡ statusDue u p h → (h .protocol ≡ 0x01 → ⊥) → v ≡ obeyedBy (kindIn h) u h p
+      → Rows s v (lent .memory) d
+  unfolding countedFor
+  fields-done s v d e due q left = (
     λ w written. (
-      λ f. (h, read, w, rw due at e, inr (protocol-other (p .packet) (u .number) h read q, only-ownable 20 (Replied s) u v (replied-counted s u) only, refl)),
+      λ f. (h, read, w, rw due at e, inr (protocol-other (p .packet) (u .number) h read q, ap (countedAs 20) left, refl)),
       λ f. absurd (false≢true (sym f ∙ e)),
-      written refl,
+      written s refl,
     ),
     λ w. rw e (λ written. (
-      (h, read, w, rw due at e, inr (protocol-other (p .packet) (u .number) h read q, only-ownable 18 Obeyed u v (obeyed-counted u) only, refl)),
+      (h, read, w, rw due at e, inr (protocol-other (p .packet) (u .number) h read q, ap (countedAs 18) left, refl)),
       (refl, refl),
     )),
   )
@@ -188,35 +158,23 @@ module _ (u : TheUnit) (p : Arrived) (lent : Lent) (h : Header) (read : IsComman
 
     fields-row : (h .protocol ≡ 0x01 → ⊥)
         → Rows status (changed (fieldActionIn h p) u (h .initiator) path (p .link)) (lent .memory) (dataFor (fieldActionIn h p) u (p .link) (lent .memory))
-    fields-row e =
-        field-changes u h path (p .packet) (p .link) (headerSize (h .instruction)) (λ v. Rows status v (lent .memory) d) (isSuccess status) (kindIn h) (same (isSuccess status) refl)
-        (λ new expected t k. fields-done status (withOwner u (swapped (u .owner) new expected (h .initiator) path (p .link))) d t due e refl)
-        (λ word t k. (
-          fields-done status (withClock u (timeCodeWritten (u .clock) word)) d t due e (code-only u word),
-          fields-done status (withFields u (dividerWritten (u .fields) word)) d t due e (divider-only u word),
-        ))
+    fields-row e = go (isSuccess status) refl
       where
         d : List ℕ
         d = dataFor (fieldActionIn h p) u (p .link) (lent .memory)
 
-        same : (t : Bool) → isSuccess status ≡ t → Rows status u (lent .memory) d
-        same true t = fields-done status u d t due e refl
-        same false t = refused-row status (lent .memory) d t due (field-memory h status p lent e)
-
-  -- what the reply holds
-  written : usable u (length (lent .memory)) ≡ true → Digits 256 (p .packet) → fateNumber (takeCommand u h path p lent .answer .fate) ≡ 20
-      → Written lent (takeCommand u h path p lent)
-  unfolding takeCommand
-  written works bytes n =
-      let w = reply-written u h path p lent works (header-whole (p .packet) (u .number) h read) (length-below (p .packet) (u .number) h read bytes) n in
-      (replyIn u h path p lent, w .1, w .0, omega (arith, w .0, w .2))
+        go : (t : Bool) → isSuccess status ≡ t → Rows status (after u h p (isSuccess status) (kindIn h)) (lent .memory) d
+        go true f = fields-done status (after u h p (isSuccess status) (kindIn h)) d f due e (obeyed-unit u h p (isSuccess status) (kindIn h) f)
+        go false f =
+            subst (λ (v : TheUnit). Rows status v (lent .memory) d) (sym (refused-unit u h p (isSuccess status) (kindIn h) f))
+            (refused-row status (lent .memory) d f due (field-memory h status p lent e))
 
   command-row : usable u (length (lent .memory)) ≡ true → Digits 256 (p .packet)
       → Leaves (takeCommand u h path p lent .answer .fate) u p lent (takeCommand u h path p lent)
   command-row works bytes =
       command-is u h path p lent Row (λ w. (refl, refl, (refl, refl)))
       (λ e. refused-row first (lent .memory) [] e (rw e) (header-memory h first p lent (header-gives u h path (p .link)))) (λ q a. memory-row a q) (λ q a. fields-row a q)
-      (written works bytes)
+      (λ s e. command-says u p lent s bytes h read works e)
 
 -- ---- every packet
 

@@ -13,7 +13,6 @@ use Rattle.octets.specs.Crc.{crc, withCrc}
 use Rattle.octets.proofs.CrcLaws.{crc-none, crc-checked}
 use Rattle.packets.specs.Instruction.{isWrite, headerSize}
 use Rattle.packets.specs.Header.{kindIn}
-use Rattle.packets.specs.Path.{pathBytes}
 use Rattle.packets.specs.Reply.{replyStart, replyHead, replyWith, carried, replyOf}
 use Rattle.packets.specs.declared.instruction.Kind.{Kind}
 use Rattle.packets.specs.declared.instruction.Kind.the-variants.{Unused, Read, ReadModifyWrite, Write}
@@ -35,7 +34,8 @@ use Rattle.unit.proofs.CommandLaws.{takeCommand, packet-is}
 use Rattle.unit.proofs.MemoryLaws.{read-data, rmw-data, write-data}
 use Rattle.packets.proofs.ReadingLaws.{header-whole, length-below}
 use Rattle.demands.specs.Terminal.{ours, IsCommand, pathIn}
-use Rattle.demands.specs.Meaning.{memoryData, fieldData, dataDue, headPart, dataPart, ReplyBytes, Replies}
+use Rattle.demands.specs.ReplyDue.{memoryData, fieldData, dataDue, replyDue, ReplyBytes}
+use Rattle.demands.specs.Meaning.{Replies}
 
 -- ---- the reply
 
@@ -85,7 +85,7 @@ module _ (u : TheUnit) (p : Arrived) (lent : Lent) (s : Status) (bytes : Digits 
         go false true e = f e
         go false false e = refl
 
-    command-says : usable u (length (lent .memory)) ≡ true → Says (takeCommand u h (pathIn u p) p lent)
+    pub command-says : usable u (length (lent .memory)) ≡ true → Says (takeCommand u h (pathIn u p) p lent)
     unfolding takeCommand replyWith
     command-says works e =
         let path = pathIn u p in
@@ -99,13 +99,13 @@ module _ (u : TheUnit) (p : Arrived) (lent : Lent) (s : Status) (bytes : Digits 
         ∙ rw (eq-eqb (h .protocol) 0x01 q))
         (λ q g. rw (g, ne-eqb (h .protocol) 0x01 q) (field-data (kindIn h) u h (p .link) (p .packet) (headerSize (h .instruction)) (lent .memory)))
         (ap fateNumber e) (rw (t .0) f)) in
-        let reply : replyOf path h (byteOf (plan .status)) d ≡ pathBytes path ++ headPart h s (dataDue u p lent h s) ++ dataPart h (dataDue u p lent h s) =
-        ap (λ (x : Status). replyOf path h (byteOf x) d) (t .0) ∙ ap (λ (c : List ℕ). replyWith path h (byteOf s) c) same in (
+        let reply : replyOf path h (byteOf (plan .status)) d ≡ replyDue u p lent h s =
+        ap (λ (x : Status). replyOf path h (byteOf x) d) (t .0) ∙ ap (λ (c : List ℕ). replyWith path h (byteOf s) c) same in
+        let long : plan .length ≡ length (replyDue u p lent h s) = w .0 ∙ ap length reply in (
           h,
           read,
           t .1,
-          w .1 ∙ ap (λ (b : List ℕ). placed 0 b (lent .reply)) reply,
-          w .0 ∙ ap length reply,
+          (w .1 ∙ ap (λ (b : List ℕ). placed 0 b (lent .reply)) reply, long, rw long at (w .2)),
           head-checked h (byteOf s) (length (dataDue u p lent h s)),
           data-checked (isWrite (h .instruction)) (dataDue u p lent h s),
         )

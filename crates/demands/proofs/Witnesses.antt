@@ -1,8 +1,13 @@
 -- Witnesses: a small unit and packets to it. Their CRCs, and what document 01 says of them, were worked out apart from the definitions.
-use mathlib.Core.Bool.{true, false}
+use mathlib.Core.Path.{_≡_, refl, sym}
+use mathlib.Core.Bool.{Bool, true, false, _||_, false≢true}
 use mathlib.Core.List.{List, [], _∷_}
 use Prim.Native.Nat.{ℕ}
+use borrow.Author.Tests.{leb-false}
+use lib.Dec.{leb}
 use lib.ListN.{replicate}
+use Rattle.octets.specs.Numbers.{Digits}
+use Rattle.unit.specs.Some.{some}
 use Rattle.packets.specs.declared.reading.End.the-variants.{Eop}
 use Rattle.unit.specs.Given.{Arrived, Lent}
 use Rattle.unit.specs.declared.clock.Waiting.the-variants.{NoValue}
@@ -41,6 +46,10 @@ unit before = record {
 abbrev pub memory : List ℕ
 memory = replicate 8 0x10
 
+-- and half of it
+abbrev pub shorter : List ℕ
+shorter = replicate 4 0x10
+
 abbrev pub buffer : List ℕ
 buffer = replicate 20 0xEE
 
@@ -55,6 +64,18 @@ lent m r = record { memory = m; reply = r }
 abbrev pub write-0 : List ℕ
 write-0 =
     0xFE ∷ 0x01 ∷ 0x6C ∷ 0x2A ∷ 0x67 ∷ 0x00 ∷ 0x01 ∷ 0x00 ∷ 0x00 ∷ 0x00 ∷ 0x00 ∷ 0x00 ∷ 0x00 ∷ 0x00 ∷ 0x02 ∷ 0xA0 ∷ 0x61 ∷ 0x62 ∷ 0xB8 ∷ []
+
+-- it is bytes, by a test that computes
+tested : (ds : List ℕ) → some (leb 256) ds ≡ false → Digits 256 ds
+tested [] e = tt
+tested (d ∷ ds) e = go (leb 256 d) refl e (tested ds)
+  where
+    go : (t : Bool) → leb 256 d ≡ t → (t || some (leb 256) ds) ≡ false → (some (leb 256) ds ≡ false → Digits 256 ds) → Digits 256 (d ∷ ds)
+    go true f g rest = absurd (false≢true (sym g))
+    go false f g rest = (leb-false 256 d f, rest g)
+
+pub write-0-bytes : Digits 256 write-0
+write-0-bytes = tested write-0 refl
 
 abbrev pub write-4 : List ℕ
 write-4 =

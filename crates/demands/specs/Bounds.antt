@@ -17,7 +17,7 @@ use Rattle.unit.specs.Decide.{spanSize}
 use Rattle.unit.specs.Given.{Arrived, Lent}
 use Rattle.unit.specs.Calls.{Outcome}
 use Rattle.unit.specs.declared.unit.Unit.{Unit as TheUnit}
-use Rattle.demands.specs.Terminal.{Terminal, IsCommand, Call, packet, timeCode, ticks, after, fatesOf, Every}
+use Rattle.demands.specs.Terminal.{Terminal, IsCommand, Call, packet, timeCode, ticks, answerTo, after, Every}
 
 -- ---- memory and reply buffer
 
@@ -47,18 +47,36 @@ NeverStrays t =
 
 -- ---- histories
 
--- A call lends a memory of n bytes, and its packet is bytes; the small calls lend nothing.
+-- No history of calls, whatever they are and whatever they are lent, changes what the unit was set up with: logical address, key, time number, link
+-- count, windows.
+abbrev pub SetUpStays : Terminal → Type 0
+SetUpStays t =
+    (u : TheUnit) (calls : List Call)
+    → (after t u calls .logical ≡ u .logical)
+    × (after t u calls .key ≡ u .key)
+    × (after t u calls .number ≡ u .number)
+    × (after t u calls .links ≡ u .links)
+    × (after t u calls .windows ≡ u .windows)
+
+-- The packet of a call is bytes, as every packet of the code's type is; the small calls have none.
+abbrev pub OfBytes : Call → Type 0
+OfBytes (packet p lent) = Digits 256 (p .packet)
+OfBytes (timeCode byte) = Unit
+OfBytes (ticks count) = Unit
+
+-- A call lends a memory of n bytes; the small calls lend nothing.
 abbrev pub Lends : ℕ → Call → Type 0
-Lends n (packet p lent) = (length (lent .memory) ≡ n) × Digits 256 (p .packet)
+Lends n (packet p lent) = length (lent .memory) ≡ n
 Lends n (timeCode byte) = Unit
 Lends n (ticks count) = Unit
 
--- A unit that is usable with n bytes of memory is so after any history of calls that lend n bytes, whatever they hold.
+-- After any history the unit is usable with n bytes of memory exactly if it was so before, whatever lengths were lent in between.
 abbrev pub StaysUsable : Terminal → Type 0
-StaysUsable t = (u : TheUnit) (n : ℕ) (calls : List Call) → usable u n ≡ true → Every (Lends n) calls → usable (after t u calls) n ≡ true
+StaysUsable t = (u : TheUnit) (n : ℕ) (calls : List Call) → Every OfBytes calls → usable (after t u calls) n ≡ usable u n
 
--- So no call of such a history gets 1. (That each call returns is no matter of its answer: the checker shows it of the code, for every input.)
+-- So a unit that is usable with n bytes of memory comes back: behind any history no call that lends n bytes gets 1, and no small call does. (That each
+-- call returns is no matter of its answer: the checker shows it of the code, for every input.)
 abbrev pub ComesBack : Terminal → Type 0
 ComesBack t =
-    (u : TheUnit) (n : ℕ) (calls : List Call) → usable u n ≡ true → Every (Lends n) calls
-    → Every (λ fate. fateNumber fate ≢ 1) (fatesOf t u calls)
+    (u : TheUnit) (n : ℕ) (before : List Call) (c : Call) → usable u n ≡ true → Every OfBytes before → Lends n c
+    → fateNumber (answerTo t (after t u before) c .fate) ≢ 1

@@ -1,23 +1,30 @@
 -- Impostors (document 01, 'What a promise has to say'): terminals that a demand has to shut out.
-use mathlib.Core.Bool.{cond}
-use mathlib.Core.List.{[]}
+use mathlib.Core.Path.{_≡_}
+use mathlib.Core.Bool.{true, cond}
+use mathlib.Core.List.{List, []}
+use Prim.Native.Nat.{ℕ}
 use lib.Dec.{eqb}
-use lib.ListN.{getD, replicate}
+use lib.ListN.{length, getD, replicate}
 use Rattle.packets.specs.Reading.{readPacket}
 use Rattle.packets.specs.Reply.{replyLength, replied}
 use Rattle.packets.specs.declared.header.Header.{Header}
 use Rattle.packets.specs.declared.path.Path.{Path}
 use Rattle.packets.specs.declared.reading.Reading.{Reading}
 use Rattle.packets.specs.declared.reading.Reading.the-variants.{Refused, Time, Command}
+use Rattle.unit.specs.Fate.{fateNumber}
+use Rattle.unit.specs.Usable.{usable}
 use Rattle.unit.specs.Counters.{total}
-use Rattle.unit.specs.Act.{withCounters, countedUnit}
+use Rattle.unit.specs.Act.{withClock, withCounters, countedUnit}
 use Rattle.unit.specs.Given.{Arrived, Lent}
 use Rattle.unit.specs.Calls.{Outcome, withoutReply, leaving, takePacket, takeTimeCode, takeTicks}
 use Rattle.unit.specs.declared.fate.Status.the-variants.{Success, NotAuthorised}
 use Rattle.unit.specs.declared.fate.Fate.the-variants.{NotObeyed, Obeyed, Replied}
 use Rattle.unit.specs.declared.unit.Unit.{Unit as TheUnit}
-use Rattle.demands.specs.Terminal.{Terminal, pathIn}
-use Rattle.demands.specs.Meaning.{ByteByByte}
+use Rattle.demands.specs.Terminal.{Terminal, pathIn, Call, after, Every}
+use Rattle.demands.specs.ReplyDue.{Written}
+use Rattle.demands.specs.Refusals.{RowByRow}
+use Rattle.demands.specs.Bounds.{OfBytes, Lends, StaysUsable}
+use Rattle.demands.specs.Meaning.{ByteByByte, OnlyStoresChange, RefusedChangesNone}
 use Rattle.demands.specs.Lists.{Merges}
 use Rattle.demands.specs.Counts.{CountersAreHistory}
 
@@ -67,13 +74,54 @@ invented o = record {
 abbrev pub inventsCounters : Terminal
 inventsCounters = faking (λ u p lent. invented (takePacket u p lent))
 
+-- It does as ours, but a reply it only claims: the fate says that it replied, the length is 0, and the buffer is as it was.
+abbrev pub unsaid : Outcome → Lent → Outcome
+unsaid o lent = record {
+  answer = record { unit = o .answer .unit; fate = o .answer .fate; length = 0 };
+  memory = o .memory;
+  reply = lent .reply;
+}
+
+abbrev pub repliesNothing : Terminal
+repliesNothing = faking (λ u p lent. unsaid (takePacket u p lent) lent)
+
+-- It does as ours, but a packet that gets 1 it never gets over: from then on its last Time-Code is 64, and no unit with that is usable.
+abbrev pub givenUp : TheUnit → TheUnit
+givenUp u = withClock u (record { last = 64; elapsed = u .clock .elapsed; waiting = u .clock .waiting })
+
+abbrev pub sulking : Outcome → Outcome
+sulking o = record {
+  answer = record {
+    unit = cond (eqb (fateNumber (o .answer .fate)) 1) (givenUp (o .answer .unit)) (o .answer .unit);
+    fate = o .answer .fate;
+    length = o .answer .length;
+  };
+  memory = o .memory;
+  reply = o .reply;
+}
+
+abbrev pub givesUp : Terminal
+givesUp = faking (λ u p lent. sulking (takePacket u p lent))
+
+-- It does as ours, but where a header CRC is wrong (15) it clears memory.
+abbrev pub cleared : Outcome → Outcome
+cleared o = record {
+  answer = o .answer;
+  memory = cond (eqb (fateNumber (o .answer .fate)) 15) (replicate (length (o .memory)) 0) (o .memory);
+  reply = o .reply;
+}
+
+abbrev pub clearsMemory : Terminal
+clearsMemory = faking (λ u p lent. cleared (takePacket u p lent))
+
 -- ---- which demand shuts out which
 
 abbrev pub ShutsOut : (Terminal → Type 0) → Terminal → Type 0
 ShutsOut Demand t = Demand t → ⊥
 
 -- Demand 2, which names status, reply and memory, for any unit and memory, shuts out the first four; demand 3, of whole lists, the fourth too; the
--- history's counts the fifth.
+-- history's counts the fifth. What only claims to reply is shut out by the rows of demand 1; what gives up, by the history of demand 1, in which memory of
+-- another length may be lent; what clears memory, by the part of demand 2 that says what changes it.
 abbrev pub ImpostorsShutOut : Type 0
 ImpostorsShutOut =
     ShutsOut ByteByByte refusesAll
@@ -82,7 +130,23 @@ ImpostorsShutOut =
     × ShutsOut ByteByByte obeysFirst
     × ShutsOut Merges obeysFirst
     × ShutsOut CountersAreHistory inventsCounters
+    × ShutsOut RowByRow repliesNothing
+    × ShutsOut StaysUsable givesUp
+    × ShutsOut OnlyStoresChange clearsMemory
 
 -- Demand 3 alone would not do: one that does nothing does it in any order. It is asked beside demand 2.
 abbrev pub ThreeAloneLetsBy : Type 0
 ThreeAloneLetsBy = Merges doesNothing
+
+-- The last three were let by by less than the demands say now. That some bytes were written as a reply: what only claims to reply has written none of
+-- them. That a unit stays usable where every memory has one length: what gives up is never given another. That refused commands change no memory: what
+-- clears it where a header CRC is wrong does so to no command.
+abbrev pub SomeReplyLetsBy : Type 0
+SomeReplyLetsBy = (u : TheUnit) (p : Arrived) (lent : Lent) → (bytes : List ℕ) × Written bytes lent (repliesNothing .packet u p lent)
+
+abbrev pub OneLengthLetsBy : Type 0
+OneLengthLetsBy =
+    (u : TheUnit) (n : ℕ) (calls : List Call) → usable u n ≡ true → Every (λ c. OfBytes c × Lends n c) calls → usable (after givesUp u calls) n ≡ true
+
+abbrev pub RefusedAloneLetsBy : Type 0
+RefusedAloneLetsBy = RefusedChangesNone clearsMemory

@@ -1,6 +1,7 @@
 pub mod Rows
 pub mod Terminal
 pub mod Demands
+pub mod ReplyDue
 pub mod Refusals
 pub mod Bounds
 pub mod Meaning
@@ -10,3 +11,4 @@ pub mod Names
 pub mod Cases
 pub mod Outcomes
 pub mod Impostors
+pub mod Only

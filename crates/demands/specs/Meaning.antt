@@ -1,31 +1,25 @@
 -- Demand 2: each packet does what document 01 says, byte by byte.
 use mathlib.Core.Path.{_≡_}
-use mathlib.Core.Bool.{true, false, cond, _&&_, _||_}
+use mathlib.Core.Bool.{true, false, _&&_, _||_}
 use mathlib.Core.Logic.{_⊎_, _≢_}
-use mathlib.Core.List.{List, [], _∷_, _++_}
-use Prim.Native.Nat.{ℕ, _/_, _<_}
+use mathlib.Core.List.{List, [], _∷_}
+use Prim.Native.Nat.{ℕ, _<_}
 use denote.Ref.{now}
 use lib.Dec.{eqb}
-use lib.ListN.{length, getD, replicate}
-use Rattle.octets.specs.Places.{part, placed}
-use Rattle.octets.specs.Numbers.{Digits, bytesOf}
-use Rattle.octets.specs.Crc.{crc, withCrc}
-use Rattle.packets.specs.Instruction.{isRmw, isWrite, isVerified, wantsReply, isIncrementing}
+use lib.ListN.{getD}
+use Rattle.octets.specs.Numbers.{Digits}
+use Rattle.packets.specs.Instruction.{isRmw, isWrite, isVerified}
 use Rattle.packets.specs.Header.{kindIn}
-use Rattle.packets.specs.Path.{pathBytes}
-use Rattle.packets.specs.Reply.{replyHead, carried}
-use Rattle.packets.specs.declared.instruction.Kind.{Kind}
-use Rattle.packets.specs.declared.instruction.Kind.the-variants.{Unused, Read, ReadModifyWrite, Write}
 use Rattle.packets.specs.declared.header.Header.{Header}
 use Rattle.unit.specs.Some.{some}
-use Rattle.unit.specs.Fate.{byteOf, fateStatus}
+use Rattle.unit.specs.Fate.{fateStatus}
 use Rattle.unit.specs.Owner.{isOwner}
-use Rattle.unit.specs.Fields.{named, deviceId, timeCodeCounter, divider, missing, rowOf, valuesOf, fieldBytes}
+use Rattle.unit.specs.Fields.{deviceId, timeCodeCounter, divider, missing, rowOf, valuesOf}
 use Rattle.unit.specs.Given.{Arrived, Lent, sizesOf}
-use Rattle.unit.specs.Decide.{rmwCount}
-use Rattle.unit.specs.Calls.{Outcome, takePacket, takeTimeCode, takeTicks}
+use Rattle.unit.specs.Calls.{takePacket, takeTimeCode, takeTicks}
 use Rattle.unit.specs.declared.fate.Status.{Status}
 use Rattle.unit.specs.declared.fate.Fate.the-variants.{Replied}
+use Rattle.unit.specs.declared.fate.Told.{Told}
 use Rattle.unit.specs.declared.fate.Told.the-variants.{Byte}
 use Rattle.unit.specs.declared.unit.Unit.{Unit as TheUnit}
 use Rattle.unit.specs.Judge.{judged, fateIn, lengthIn}
@@ -34,7 +28,7 @@ use Rattle.unit.proofs.take_packet.Reads.{Learnt as promise-of-take_packet}
 use Rattle.unit.proofs.take_time_code.Reads.{Learnt as promise-of-take_time_code}
 use Rattle.unit.proofs.take_ticks.Reads.{Learnt as promise-of-take_ticks}
 use Rattle.demands.specs.Terminal.{Terminal, IsCommand, pathIn}
-use Rattle.demands.specs.Refusals.{withOwnable}
+use Rattle.demands.specs.ReplyDue.{ReplyBytes}
 
 -- ---- byte by byte
 
@@ -84,7 +78,23 @@ AsJudged t =
 
 -- ---- refused, and memory unchanged
 
--- A verified write or a read-modify-write that does not have status 0, for whatever reason, changes no memory.
+-- A command stores with a status: a write or an RMW with 0; and a write without verify also with 4, 5, 6 or 7.
+abbrev pub StoresWith : Header → Told → Type 0
+StoresWith h told =
+    (((isWrite (h .instruction) || isRmw (kindIn h)) ≡ true) × (told ≡ Byte 0))
+    ⊎ ((isWrite (h .instruction) ≡ true)
+    × (isVerified (h .instruction) ≡ false)
+    × ((status : ℕ) × (told ≡ Byte status) × (some (eqb status) (4 ∷ 5 ∷ 6 ∷ 7 ∷ []) ≡ true)))
+
+-- Every packet leaves memory as it was, or is an RMAP command that stores with the status it has. So nothing changes where the header is cut or
+-- its CRC is wrong (then the packet is no command), by a packet of another protocol, or by a command that has no status.
+abbrev pub OnlyStoresChange : Terminal → Type 0
+OnlyStoresChange t =
+    (u : TheUnit) (p : Arrived) (lent : Lent)
+    → (t .packet u p lent .memory ≡ lent .memory)
+    ⊎ ((h : Header) × IsCommand u p h × (h .protocol ≡ 0x01) × StoresWith h (fateStatus (t .packet u p lent .answer .fate)))
+
+-- Of these the customer named two: a verified write or a read-modify-write that does not have status 0, for whatever reason, changes no memory.
 abbrev pub RefusedChangesNone : Terminal → Type 0
 RefusedChangesNone t =
     (u : TheUnit) (p : Arrived) (lent : Lent) (h : Header) → IsCommand u p h
@@ -108,6 +118,32 @@ Claims u p h v =
 -- A plug-and-play command of the owner, or one that claims an unowned unit.
 abbrev pub OwnersOrClaim : TheUnit → Arrived → TheUnit → Type 0
 OwnersOrClaim u p v = (h : Header) × IsCommand u p h × (h .protocol ≡ 0x03) × (FromOwner u p h ⊎ Claims u p h v)
+
+-- The unit u with owner, last Time-Code and divider from v: what can be owned. Logical address, key, time number, link count, windows, the other fields, ET,
+-- the waiting value and the counters are those of u.
+abbrev pub withOwnable : TheUnit → TheUnit → TheUnit
+withOwnable u v = record {
+  logical = u .logical;
+  key = u .key;
+  number = u .number;
+  links = u .links;
+  windows = u .windows;
+  fields = record {
+    vendor = u .fields .vendor;
+    version = u .fields .version;
+    status = u .fields .status;
+    active = u .fields .active;
+    information = u .fields .information;
+    maker = u .fields .maker;
+    serial = u .fields .serial;
+    base = u .fields .base;
+    range = u .fields .range;
+    divider = v .fields .divider;
+  };
+  owner = v .owner;
+  clock = record { last = v .clock .last; elapsed = u .clock .elapsed; waiting = u .clock .waiting };
+  counters = u .counters;
+}
 
 -- No other packet changes what can be owned: owner (Device ID, initiator address, path with its count, link), last Time-Code, divider.
 abbrev pub OwnableIsOwners : Terminal → Type 0
@@ -144,45 +180,7 @@ OthersStay t =
 
 -- ---- the reply
 
--- The data of a reply with status 0. Read: L bytes from A, or L times the byte at A if single; RMW: the L/2 bytes that were there.
-abbrev pub memoryData : Kind → Header → List ℕ → List ℕ
-memoryData Unused h m = []
-memoryData Read h m =
-    cond (isIncrementing (h .instruction)) (part (h .address) (h .length) m) (replicate (h .length) (getD m (h .address) 0))
-memoryData ReadModifyWrite h m = part (h .address) (rmwCount h) m
-memoryData Write h m = []
-
--- Fields: L/4 of them; a swap answers the old Device ID.
-abbrev pub fieldData : Kind → TheUnit → Header → ℕ → List ℕ
-fieldData Unused u h link = []
-fieldData Read u h link = fieldBytes (valuesOf (u .fields) (u .owner) (u .clock .last) (u .links) link) (named (h .address) (h .length / 4))
-fieldData ReadModifyWrite u h link = bytesOf 4 (u .owner .device)
-fieldData Write u h link = []
-
--- Errors carry none, and no reply to a command with the write bit does.
-abbrev pub dataDue : TheUnit → Arrived → Lent → Header → Status → List ℕ
-dataDue u p lent h s =
-    carried h (byteOf s) (cond (eqb (h .protocol) 0x01) (memoryData (kindIn h) h (lent .memory)) (fieldData (kindIn h) u h (p .link)))
-
--- Behind the path: the header, which ends in its CRC; and the data, which end in theirs, unless the command has the write bit.
-abbrev pub headPart : Header → Status → List ℕ → List ℕ
-headPart h s d = replyHead h (byteOf s) (length d)
-
-abbrev pub dataPart : Header → List ℕ → List ℕ
-dataPart h d = cond (isWrite (h .instruction)) [] (withCrc d)
-
--- A reply, when one is sent, was asked for, and is path, header and data, at the buffer's start; the rest of the buffer stays. The CRC, run over header
--- or data with their own CRC behind them, gives 0.
-abbrev pub ReplyBytes : TheUnit → Arrived → Lent → Status → Outcome → Type 0
-ReplyBytes u p lent s o =
-    (h : Header)
-    × IsCommand u p h
-    × (wantsReply (h .instruction) ≡ true)
-    × (o .reply ≡ placed 0 (pathBytes (pathIn u p) ++ headPart h s (dataDue u p lent h s) ++ dataPart h (dataDue u p lent h s)) (lent .reply))
-    × (o .answer .length ≡ length (pathBytes (pathIn u p) ++ headPart h s (dataDue u p lent h s) ++ dataPart h (dataDue u p lent h s)))
-    × (crc (headPart h s (dataDue u p lent h s)) ≡ 0)
-    × (crc (dataPart h (dataDue u p lent h s)) ≡ 0)
-
+-- A reply, when one is sent, is the one that is due. (So says row 20 of demand 1 too, which shuts out what only claims to have replied.)
 abbrev pub Replies : Terminal → Type 0
 Replies t =
     (u : TheUnit) (p : Arrived) (lent : Lent) (s : Status) → Digits 256 (p .packet)

@@ -3,11 +3,12 @@ use mathlib.Core.Path.{_≡_}
 use mathlib.Core.Bool.{Bool, true, false, cond, not, _&&_}
 use mathlib.Core.Logic.{_⊎_, _↔_}
 use mathlib.Core.List.{List, [], _∷_}
-use Prim.Native.Nat.{ℕ, _+_, _-_, _%_, _^_, _<_, _≤_, min}
+use Prim.Native.Nat.{ℕ, _+_, _-_, _%_, _^_, _<_, min}
 use lib.Dec.{eqb}
-use lib.ListN.{length}
+use lib.ListN.{length, drop}
 use Rattle.octets.specs.Places.{part, placed}
-use Rattle.octets.specs.Numbers.{Digits}
+use Rattle.octets.specs.Numbers.{Digits, number}
+use Rattle.octets.specs.Crc.{crc}
 use Rattle.packets.specs.Instruction.{isWrite, isVerified, wantsReply, isIncrementing, headerSize}
 use Rattle.packets.specs.Header.{kindIn}
 use Rattle.packets.specs.Reading.{numberOf}
@@ -23,12 +24,13 @@ use Rattle.packets.specs.declared.time.TimeReading.the-variants.{ThrownAway, Ta
 use Rattle.unit.specs.Some.{some}
 use Rattle.unit.specs.Fate.{byteOf, isSuccess, orElse, fateNumber, fateStatus}
 use Rattle.unit.specs.Counters.{bumpedAt, total}
-use Rattle.unit.specs.Clock.{afterTime}
+use Rattle.unit.specs.Clock.{afterTime, afterCode, afterTicks}
 use Rattle.unit.specs.Usable.{usable, usableUnit}
 use Rattle.unit.specs.Given.{Arrived, Lent}
-use Rattle.unit.specs.Decide.{rmwCount, headerStatus, dataStatusOf}
+use Rattle.unit.specs.Decide.{rmwCount, headerStatus, wantedCount, dataStatus}
 use Rattle.unit.specs.Plan.{replyCount}
-use Rattle.unit.specs.Act.{combined, lastOf, withCounters, withClock}
+use Rattle.unit.specs.Owner.{swapped}
+use Rattle.unit.specs.Act.{combined, lastOf, withCounters, withClock, withOwner, fieldWritten}
 use Rattle.unit.specs.Judge.{isLink}
 use Rattle.unit.specs.Calls.{Outcome}
 use Rattle.unit.specs.declared.fate.Status.{Status}
@@ -40,6 +42,7 @@ use Rattle.unit.specs.declared.clock.Clock.{Clock}
 use Rattle.unit.specs.declared.calls.Answer.{Answer}
 use Rattle.unit.specs.declared.unit.Unit.{Unit as TheUnit}
 use Rattle.demands.specs.Terminal.{Terminal, ReadAs, IsCommand, pathIn, Every}
+use Rattle.demands.specs.ReplyDue.{ReplyBytes}
 
 -- ---- what a row says of the unit
 
@@ -47,31 +50,20 @@ use Rattle.demands.specs.Terminal.{Terminal, ReadAs, IsCommand, pathIn, 
 abbrev pub countedAs : ℕ → TheUnit → TheUnit
 countedAs number u = withCounters u (bumpedAt total (bumpedAt (number - 11) (u .counters)))
 
--- The unit u with owner, last Time-Code and divider from v: what can be owned. Logical address, key, time number, link count, windows, the other fields, ET,
--- the waiting value and the counters are those of u.
-abbrev pub withOwnable : TheUnit → TheUnit → TheUnit
-withOwnable u v = record {
-  logical = u .logical;
-  key = u .key;
-  number = u .number;
-  links = u .links;
-  windows = u .windows;
-  fields = record {
-    vendor = u .fields .vendor;
-    version = u .fields .version;
-    status = u .fields .status;
-    active = u .fields .active;
-    information = u .fields .information;
-    maker = u .fields .maker;
-    serial = u .fields .serial;
-    base = u .fields .base;
-    range = u .fields .range;
-    divider = v .fields .divider;
-  };
-  owner = v .owner;
-  clock = record { last = v .clock .last; elapsed = u .clock .elapsed; waiting = u .clock .waiting };
-  counters = u .counters;
-}
+-- The word that the data of a plug-and-play command begin with, behind the header, and the next one.
+abbrev pub firstWord : Header → Arrived → ℕ
+firstWord h p = number (part (headerSize (h .instruction)) 4 (p .packet))
+
+abbrev pub secondWord : Header → Arrived → ℕ
+secondWord h p = number (part (headerSize (h .instruction) + 4) 4 (p .packet))
+
+-- What an obeyed plug-and-play command makes of the unit, by its kind: a swap has the new value first, the expected one second, and its sender is known by initiator
+-- address, reply path and link; a write has its word.
+abbrev pub obeyedBy : Kind → TheUnit → Header → Arrived → TheUnit
+obeyedBy Unused u h p = u
+obeyedBy Read u h p = u
+obeyedBy ReadModifyWrite u h p = withOwner u (swapped (u .owner) (firstWord h p) (secondWord h p) (h .initiator) (pathIn u p) (p .link))
+obeyedBy Write u h p = fieldWritten u (h .address) (firstWord h p)
 
 -- ---- what a row says of memory
 
@@ -107,20 +99,18 @@ refusedOn h s p lent = cond (hasStored h s) (writtenTo h p lent) (lent .memory)
 
 -- ---- what a row says of the reply buffer
 
--- No reply: all bytes keep what they held.
+-- No reply: all bytes keep what they held. (A reply: `ReplyBytes`, in ReplyDue.)
 abbrev pub NoReply : Lent → Outcome → Type 0
 NoReply lent o = (o .reply ≡ lent .reply) × (o .answer .length ≡ 0)
 
--- A reply was written: it had room, its bytes stand first, and unused bytes keep what they held. (Which bytes: `Replies`, in Meaning.)
-abbrev pub Written : Lent → Outcome → Type 0
-Written lent o =
-    (bytes : List ℕ) × (o .reply ≡ placed 0 bytes (lent .reply)) × (o .answer .length ≡ length bytes) × (length bytes ≤ length (lent .reply))
-
 -- ---- when a row is given
 
--- The status that a command is due: the header's, and the data's where the header allows it; and the length of its reply.
+-- The status that a command is due: the header's, and where the header allows it the data's, by the number k of bytes behind the header, their CRC, how many are
+-- wanted, and the end; and the length of its reply.
 abbrev pub statusDue : TheUnit → Arrived → Header → Status
-statusDue u p h = orElse (headerStatus u h (pathIn u p) (p .link)) (dataStatusOf h p)
+statusDue u p h =
+    orElse (headerStatus u h (pathIn u p) (p .link))
+    (dataStatus (length (p .packet) - headerSize (h .instruction)) (crc (drop (headerSize (h .instruction)) (p .packet))) (wantedCount h) (p .end))
 
 abbrev pub lengthDue : TheUnit → Arrived → Header → ℕ
 lengthDue u p h = replyLength (pathIn u p) h (byteOf (statusDue u p h)) (replyCount h)
@@ -159,8 +149,8 @@ Refuses s number asked u p lent o =
     × (o .answer .unit ≡ countedAs number u)
     × (o .memory ≡ refusedOn h s p lent)
 
--- A command that asked for a reply or did not, obeyed, since status 0 is due: counted, effect done. RMAP changes nothing else of the unit. Plug-and-play
--- changes no memory, and nothing of the unit that can't be owned; what it changes there the definitions say (`ByteByByte`, in Meaning).
+-- A command that asked for a reply or did not, obeyed, since status 0 is due: counted, effect done. RMAP changes nothing else of the unit, plug-and-play
+-- changes no memory.
 abbrev pub Obeys : ℕ → Bool → TheUnit → Arrived → Lent → Outcome → Type 0
 Obeys number asked u p lent o =
     (h : Header)
@@ -168,7 +158,7 @@ Obeys number asked u p lent o =
     × (wantsReply (h .instruction) ≡ asked)
     × (isSuccess (statusDue u p h) ≡ true)
     × (((h .protocol ≡ 0x01) × (o .answer .unit ≡ countedAs number u) × (o .memory ≡ obeyedOn (kindIn h) h p lent))
-    ⊎ ((h .protocol ≡ 0x03) × (o .answer .unit ≡ countedAs number (withOwnable u (o .answer .unit))) × (o .memory ≡ lent .memory)))
+    ⊎ ((h .protocol ≡ 0x03) × (o .answer .unit ≡ countedAs number (obeyedBy (kindIn h) u h p)) × (o .memory ≡ lent .memory)))
 
 -- The table: when a packet that arrived gets a fate, and what it then leaves of unit, memory and reply buffer.
 abbrev pub Leaves : Fate → TheUnit → Arrived → Lent → Outcome → Type 0
@@ -182,7 +172,7 @@ Leaves (NotObeyed s) u p lent o = Refuses s 17 false u p lent o × NoReply lent 
 Leaves Obeyed u p lent o = Obeys 18 false u p lent o × NoReply lent o
 Leaves TimeTaken u p lent o = TimeSet u p lent o  -- 19
 Leaves (Replied s) u p lent o =
-    (isSuccess s ≡ true → Obeys 20 true u p lent o) × (isSuccess s ≡ false → Refuses s 20 true u p lent o) × Written lent o
+    (isSuccess s ≡ true → Obeys 20 true u p lent o) × (isSuccess s ≡ false → Refuses s 20 true u p lent o) × ReplyBytes u p lent s o
 
 -- ---- the demand
 
@@ -204,23 +194,24 @@ OneTwoThree t =
     × (isLink u (p .link) ≡ true)
     × ((h : Header) × IsCommand u p h × (wantsReply (h .instruction) ≡ true) × (length (lent .reply) < lengthDue u p h))))
 
--- The small calls answer 1 and leave the unit, where it is unusable for another cause than memory; else 0, and only the time changes. Neither
--- counts, and neither has a reply. A Time-Code becomes the last one, whoever owns the unit: it is no packet. Ticks leave the last one, and
--- what waits.
+-- The small calls answer 1 and leave the unit, where it is unusable for another cause than memory; else 0, and only the clock changes, to what the
+-- definitions make of it. Neither counts, and neither has a reply. A Time-Code becomes the last one, whoever owns the unit: it is no packet. Ticks leave the
+-- last one, and what waits.
 abbrev pub SmallRow : (Clock → Type 0) → TheUnit → Answer → Type 0
 SmallRow Moved u a =
     ((usableUnit u ≡ false) × (fateNumber (a .fate) ≡ 1) × (a .unit ≡ u) × (a .length ≡ 0))
     ⊎ ((usableUnit u ≡ true) × (fateNumber (a .fate) ≡ 0) × (a .unit ≡ withClock u (a .unit .clock)) × Moved (a .unit .clock) × (a .length ≡ 0))
 
-abbrev pub ByCode : ℕ → Clock → Type 0
-ByCode byte c = c .last ≡ byte % 2 ^ 6
+abbrev pub ByCode : TheUnit → ℕ → Clock → Type 0
+ByCode u byte c = (c ≡ afterCode (u .clock) (byte % 2 ^ 6)) × (c .last ≡ byte % 2 ^ 6)
 
-abbrev pub ByTicks : TheUnit → Clock → Type 0
-ByTicks u c = (c .last ≡ u .clock .last) × (c .waiting ≡ u .clock .waiting)
+abbrev pub ByTicks : TheUnit → ℕ → Clock → Type 0
+ByTicks u count c = (c ≡ afterTicks (u .clock) count) × (c .last ≡ u .clock .last) × (c .waiting ≡ u .clock .waiting)
 
 abbrev pub SmallRows : Terminal → Type 0
 SmallRows t =
-    ((u : TheUnit) (byte : ℕ) → SmallRow (ByCode byte) u (t .timeCode u byte)) × ((u : TheUnit) (count : ℕ) → SmallRow (ByTicks u) u (t .ticks u count))
+    ((u : TheUnit) (byte : ℕ) → SmallRow (ByCode u byte) u (t .timeCode u byte))
+    × ((u : TheUnit) (count : ℕ) → SmallRow (ByTicks u count) u (t .ticks u count))
 
 -- ---- the numbers
 

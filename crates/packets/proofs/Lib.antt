@@ -1,4 +1,5 @@
 pub mod Examples
+pub mod InstructionLaws
 pub mod PathLaws
 pub mod ReadingLaws
 pub mod HeaderLaws

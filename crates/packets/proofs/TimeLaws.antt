@@ -1,6 +1,6 @@
 -- Laws of time packets.
-use mathlib.Core.Path.{_≡_, refl, ap}
-use mathlib.Core.Bool.{Bool, true, false, cond, _&&_, _||_}
+use mathlib.Core.Path.{_≡_, refl, sym, ap, _∙_}
+use mathlib.Core.Bool.{Bool, true, false, cond, _&&_, _||_, or-false}
 use mathlib.Core.List.{List}
 use Prim.Native.Nat.{ℕ, _^_, _<_}
 use native.Mathlib.Omega.{arith}
@@ -10,10 +10,13 @@ use lib.ListN.{length, getD}
 use Rattle.octets.specs.Crc.{crc}
 use Rattle.octets.specs.Numbers.{Digits}
 use Rattle.octets.proofs.NumberLaws.{number-below}
+use Rattle.octets.proofs.PlaceLaws.{first-true, second-true}
 use Rattle.packets.specs.Reading.{isEop}
-use Rattle.packets.specs.Time.{isTimePacket, timeAt, readTime}
+use Rattle.packets.specs.Time.{whenNumber, isTimePacket, whenOf, timeAt, readTime}
 use Rattle.packets.specs.declared.reading.End.{End}
 use Rattle.packets.specs.declared.time.Time.{Time as TheTime}
+use Rattle.packets.specs.declared.time.When.{When}
+use Rattle.packets.specs.declared.time.When.the-variants.{AtWrap, AtOnce}
 use Rattle.packets.specs.declared.time.TimeReading.{TimeReading}
 use Rattle.packets.specs.declared.time.TimeReading.the-variants.{ThrownAway, Taken}
 
@@ -43,3 +46,26 @@ taken-below p end logical number t d = go (isTimePacket p end logical number) re
         let twelve = time-twelve p end logical number f in
         rw (ap value-in e) at (number-below p 4 7 d (omega (arith, twelve)))
     go false f e = absurd (omega (arith, ap is-taken e))
+
+-- ---- when the time is to be taken, as a case and as its number
+
+-- from a case to its number and back
+pub when-back : (w : When) → whenOf (whenNumber w) ≡ w
+when-back AtWrap = refl
+when-back AtOnce = refl
+
+-- and from a number that document 01 has
+pub number-back : (b : ℕ) → (eqb b 0x00 || eqb b 0x01) ≡ true → whenNumber (whenOf b) ≡ b
+number-back b = go (eqb b 0x01) refl
+  where
+    go : (t : Bool) → eqb b 0x01 ≡ t → (eqb b 0x00 || t) ≡ true → whenNumber (cond t AtOnce AtWrap) ≡ b
+    go true e f = sym (eqb-true b 0x01 e)
+    go false e f = sym (eqb-true b 0x00 (sym (or-false (eqb b 0x00)) ∙ f))
+
+-- so that a time packet is read as the case whose number its byte 3 is
+pub when-told : (p : List ℕ) (end : End) (logical n : ℕ) → isTimePacket p end logical n ≡ true → whenNumber (timeAt p .when) ≡ getD p 3 0
+when-told p end logical n h =
+    let before = eqb (length p) 12 && isEop end && (eqb (getD p 0 0) logical || eqb (getD p 0 0) 0xFE) && eqb (getD p 1 0) n
+    && (eqb (getD p 2 0) 0x9F || eqb (getD p 2 0) 0xAF) in
+    let known = eqb (getD p 3 0) 0x00 || eqb (getD p 3 0) 0x01 in
+    number-back (getD p 3 0) (second-true before known (first-true (before && known) (eqb (crc p) 0) h))

@@ -20,6 +20,11 @@ abbrev pub timeNumberOf : TimeReading → ℕ
 timeNumberOf ThrownAway = 16
 timeNumberOf (Taken t) = 19
 
+-- Document 01's number of each case, a time packet's byte 3: 00 makes the time wait for the wrap, 01 sets it at once.
+abbrev pub whenNumber : When → ℕ
+whenNumber AtWrap = 0x00
+whenNumber AtOnce = 0x01
+
 -- Exactly 12 bytes and EOP: address (the unit's or FE), number, 9F or AF, 00 or 01, seven bytes of T, and a CRC over the
 -- eleven before: the CRC of all twelve is 0.
 abbrev pub isTimePacket : List ℕ → End → ℕ → ℕ → Bool
@@ -28,12 +33,12 @@ isTimePacket p end logical timeNumber =
     && (eqb (getD p 0 0) logical || eqb (getD p 0 0) 0xFE)
     && eqb (getD p 1 0) timeNumber
     && (eqb (getD p 2 0) 0x9F || eqb (getD p 2 0) 0xAF)
-    && (eqb (getD p 3 0) 0x00 || eqb (getD p 3 0) 0x01)
+    && (eqb (getD p 3 0) (whenNumber AtWrap) || eqb (getD p 3 0) (whenNumber AtOnce))
     && eqb (crc p) 0
 
--- 01 sets the time at once, 00 makes it wait for the wrap.
+-- And back. That no time packet falls under the second case wrongly is `when-told`, in TimeLaws.
 abbrev pub whenOf : ℕ → When
-whenOf n = cond (eqb n 0x01) AtOnce AtWrap
+whenOf n = cond (eqb n (whenNumber AtOnce)) AtOnce AtWrap
 
 -- What it says: epoch code, when, and T.
 abbrev pub timeAt : List ℕ → Time

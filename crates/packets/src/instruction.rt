@@ -73,8 +73,8 @@ pub struct Instruction {
 }
 
 impl Instruction {
-    // What each bit weighs. Of the type, which has two, the lower one; r is what stands below them all.
-    pub const TYPE: u8 = 0b0100_0000;
+    // Its bits: these six constants are all eight of them, each once.
+    pub const TYPE_BITS: u8 = 0b1100_0000;
 
     pub const WRITE: u8 = 0b0010_0000;
 
@@ -83,6 +83,11 @@ impl Instruction {
     pub const REPLY: u8 = 0b0000_1000;
 
     pub const INCREMENT: u8 = 0b0000_0100;
+
+    pub const R_BITS: u8 = 0b0000_0011;
+
+    // The lower of the two type bits: what a type of 1 weighs.
+    pub const TYPE: u8 = 0b0100_0000;
 
     // Bits 7-6: 0 is a reply, 1 a command, 2 and 3 are unused.
     pub fn packet_type(self) -> u8
@@ -134,7 +139,7 @@ impl Instruction {
     pub fn r(self) -> u8
         ensures { λ r. ⌜ r ≡ rOf self ⌝ }
     {
-        self.byte % Self::INCREMENT
+        self.byte & Self::R_BITS
     }
 
     // How many bytes the reply address has, and how many the header.
@@ -155,7 +160,7 @@ impl Instruction {
         ensures { λ r. ⌜ r ≡ replyForm self ⌝ }
     {
         Instruction {
-            byte: self.byte % Self::TYPE,
+            byte: self.byte & !Self::TYPE_BITS,
         }
     }
 }

@@ -1,4 +1,4 @@
--- Laws of records: how long a right one is, that a whole one is all there, and that what comes behind a record changes nothing of it.
+-- Laws of records: how long a right one is, which numbers stand for its kind and its end, that a whole one is all there, and that what comes behind a record changes nothing of it.
 use native.Mathlib.Omega.{arith}
 use mathlib.Core.Path.{_≡_, refl, sym, ap, _∙_}
 use mathlib.Core.Bool.{Bool, true, false, cond, not, _&&_, _||_, or-false}
@@ -10,8 +10,10 @@ use lib.ListN.{length, getD, drop, take, length-append, length-drop, List·getD-
 use lib.Seq.{take-append-le, drop-append-le}
 use Rattle.octets.specs.Places.{part}
 use Rattle.octets.specs.Numbers.{number}
-use Rattle.octets.proofs.PlaceLaws.{second-true}
-use Rattle.records.specs.Record.{isRight, bodySize, isHead, endOf, itemOf, readRecord, sizeOf}
+use Rattle.octets.proofs.PlaceLaws.{first-true, second-true}
+use Rattle.records.specs.Record.{kindNumber, endNumber, isRight, bodySize, isHead, endOf, itemOf, readRecord, sizeOf}
+use Rattle.packets.specs.declared.reading.End.{End}
+use Rattle.packets.specs.declared.reading.End.the-variants.{Eop, Eep}
 use Rattle.records.specs.declared.record.Item.{Item}
 use Rattle.records.specs.declared.record.Item.the-variants.{Packet, TimeCode, Ticks}
 use Rattle.records.specs.declared.record.Record.{Record}
@@ -34,15 +36,33 @@ module _ (s : List ℕ) (head : isHead s ≡ true) where
       (second-true (eqb (getD s 2 0) 3 && eqb (getD s 3 0) 0 && eqb (getD s 4 0) 0) (eqb (bodySize s) 4)
       (rw (ne-eqb (getD s 2 0) 1 one, ne-eqb (getD s 2 0) 2 two) at fits-kind))
 
+  -- there is no fourth kind, and a packet has end 0 or 1
+  third : (getD s 2 0 ≡ 1 → ⊥) → (getD s 2 0 ≡ 2 → ⊥) → getD s 2 0 ≡ 3
+  third one two =
+      let link = eqb (getD s 3 0) 0 in
+      let end = eqb (getD s 4 0) 0 in
+      let body = eqb (bodySize s) 4 in
+      eqb-true (getD s 2 0) 3
+      (first-true (eqb (getD s 2 0) 3) link
+      (first-true (eqb (getD s 2 0) 3 && link) end
+      (first-true (eqb (getD s 2 0) 3 && link && end) body
+      (rw (ne-eqb (getD s 2 0) 1 one, ne-eqb (getD s 2 0) 2 two) at fits-kind))))
+
+  packet-fits : getD s 2 0 ≡ 1 → (leb (getD s 4 0) 1 && leb (bodySize s) 4096) ≡ true
+  packet-fits one =
+      let fits = leb (getD s 4 0) 1 && leb (bodySize s) 4096 in
+      sym (or-false fits) ∙ sym (or-false (fits || false)) ∙ (rw one at fits-kind)
+
+  packet-end : getD s 2 0 ≡ 1 → getD s 4 0 ≤ 1
+  packet-end one = leb-true (getD s 4 0) 1 (first-true (leb (getD s 4 0) 1) (leb (bodySize s) 4096) (packet-fits one))
+
   -- and no body is longer than 4,096
   pub body-most : bodySize s ≤ 4096
   body-most = go (eqb (getD s 2 0) 1) (eqb (getD s 2 0) 2) refl refl
     where
       go : (a b : Bool) → eqb (getD s 2 0) 1 ≡ a → eqb (getD s 2 0) 2 ≡ b → bodySize s ≤ 4096
       go true b e f =
-          leb-true (bodySize s) 4096
-          (second-true (leb (getD s 4 0) 1) (leb (bodySize s) 4096)
-          (sym (or-false (leb (getD s 4 0) 1 && leb (bodySize s) 4096)) ∙ sym (or-false ((leb (getD s 4 0) 1 && leb (bodySize s) 4096) || false)) ∙ (rw (eqb-true (getD s 2 0) 1 e) at fits-kind)))
+          leb-true (bodySize s) 4096 (second-true (leb (getD s 4 0) 1) (leb (bodySize s) 4096) (packet-fits (eqb-true (getD s 2 0) 1 e)))
       go false true e f = let n = code-body (eqb-true (getD s 2 0) 2 f) in omega arith
       go false false e f = let n = ticks-body (eqb-false (getD s 2 0) 1 e) (eqb-false (getD s 2 0) 2 f) in omega arith
 
@@ -54,6 +74,48 @@ module _ (s : List ℕ) (head : isHead s ≡ true) where
       go true b e f = refl
       go false true e f = let n = code-body (eqb-true (getD s 2 0) 2 f) in omega arith
       go false false e f = let n = ticks-body (eqb-false (getD s 2 0) 1 e) (eqb-false (getD s 2 0) 2 f) in omega arith
+
+-- ---- kind and end, as cases and as their numbers
+
+-- from an end to its number and back, and from a number that document 01 has
+pub end-back : (e : End) → endOf (endNumber e) ≡ e
+end-back Eop = refl
+end-back Eep = refl
+
+pub number-back : (b : ℕ) → b ≤ 1 → endNumber (endOf b) ≡ b
+number-back b h = go (eqb b 0) refl
+  where
+    go : (t : Bool) → eqb b 0 ≡ t → endNumber (cond t Eop Eep) ≡ b
+    go true e = sym (eqb-true b 0 e)
+    go false e = let other = eqb-false b 0 e in omega arith
+
+module _ (s : List ℕ) (head : isHead s ≡ true) where
+  -- a right head is read as the kind whose number its byte 2 is
+  pub kind-told : kindNumber (itemOf s) ≡ getD s 2 0
+  kind-told = go (eqb (getD s 2 0) 1) (eqb (getD s 2 0) 2) refl refl
+    where
+      go : (a b : Bool) → eqb (getD s 2 0) 1 ≡ a → eqb (getD s 2 0) 2 ≡ b
+          → kindNumber (cond a (Packet (endOf (getD s 4 0)) (getD s 3 0) (bodySize s)) (cond b (TimeCode (getD s 7 0)) (Ticks (number (part 7 4 s))))) ≡ getD s 2 0
+      go true b e f = sym (eqb-true (getD s 2 0) 1 e)
+      go false true e f = sym (eqb-true (getD s 2 0) 2 f)
+      go false false e f = sym (third s head (eqb-false (getD s 2 0) 1 e) (eqb-false (getD s 2 0) 2 f))
+
+  -- a packet's end, link and length are those of its head
+  pub packet-told : (end : End) (link size : ℕ) → itemOf s ≡ Packet end link size
+      → (endNumber end ≡ getD s 4 0) × (link ≡ getD s 3 0) × (size ≡ bodySize s)
+  packet-told end link size is =
+      let one : getD s 2 0 ≡ 1 = sym kind-told ∙ ap kindNumber is in
+      let e : Packet (endOf (getD s 4 0)) (getD s 3 0) (bodySize s) ≡ Packet end link size = rw one at is in
+      (sym (ap end-in e) ∙ number-back (getD s 4 0) (packet-end s head one), sym (ap link-in e), sym (ap size-in e))
+    where
+      end-in : Item → ℕ
+      end-in i = elim i [ Packet a b c ↦ endNumber a | TimeCode a ↦ 0 | Ticks a ↦ 0 ]
+
+      link-in : Item → ℕ
+      link-in i = elim i [ Packet a b c ↦ b | TimeCode a ↦ 0 | Ticks a ↦ 0 ]
+
+      size-in : Item → ℕ
+      size-in i = elim i [ Packet a b c ↦ c | TimeCode a ↦ 0 | Ticks a ↦ 0 ]
 
 -- ---- what bytes begin with is one of four
 

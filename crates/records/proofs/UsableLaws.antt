@@ -1,5 +1,5 @@
 -- The bench's unit is usable before the first record and after every one, so Time-Codes and ticks print fate 0, status - and reply 0.
-use mathlib.Core.Path.{_≡_, refl}
+use mathlib.Core.Path.{_≡_, refl, _∙_}
 use mathlib.Core.Bool.{true}
 use mathlib.Core.List.{List, []}
 use Prim.Native.Nat.{ℕ}
@@ -11,7 +11,7 @@ use Rattle.unit.specs.Usable.{usableUnit, usable}
 use Rattle.unit.specs.Calls.{takeTimeCode, takeTicks}
 use Rattle.unit.specs.declared.fate.Fate.the-variants.{TimeChanged}
 use Rattle.unit.proofs.CallLaws.{packet-length}
-use Rattle.unit.proofs.UsableLaws.{alone, usable-packet, code-with-memory, ticks-with-memory}
+use Rattle.unit.proofs.UsableLaws.{alone, packet-with-memory, code-with-memory, ticks-with-memory}
 use Rattle.records.specs.Text.{recordLine}
 use Rattle.records.specs.Log.{numberAfter, benchUnit, Held, arrivedIn, lentBy, outcomeOf, lineFor, heldAfter}
 use Rattle.records.specs.Record.{sizeOf}
@@ -30,9 +30,9 @@ pub stays-usable : (item : Item) (s : List ℕ) (h : Held) → Digits 256 s → 
 stays-usable (Packet end link size) s h d e =
     let u = h .bench .unit in
     let p = arrivedIn s end link size in
-    rw (packet-length u p (lentBy h) .0) (usable-packet u p (lentBy h) (digits-part s 7 size d) e)
-stays-usable (TimeCode byte) s h d e = code-with-memory (h .bench .unit) (length (h .memory)) byte e
-stays-usable (Ticks count) s h d e = ticks-with-memory (h .bench .unit) (length (h .memory)) count e
+    rw (packet-length u p (lentBy h) .0) (packet-with-memory u (length (h .memory)) p (lentBy h) (digits-part s 7 size d) ∙ e)
+stays-usable (TimeCode byte) s h d e = code-with-memory (h .bench .unit) (length (h .memory)) byte ∙ e
+stays-usable (Ticks count) s h d e = ticks-with-memory (h .bench .unit) (length (h .memory)) count ∙ e
 
 -- the line of a Time-Code, and of ticks: fate 0, no status, no reply
 abbrev smallLine : Held → List ℕ

@@ -13,6 +13,16 @@ use Rattle.records.specs.declared.record.Item.the-variants.{Packet, Time
 use Rattle.records.specs.declared.record.Record.{Record}
 use Rattle.records.specs.declared.record.Record.the-variants.{Whole, Wrong, Cut}
 
+-- Document 01's number of each kind of record, and of each end.
+abbrev pub kindNumber : Item → ℕ
+kindNumber (Packet end link size) = 1
+kindNumber (TimeCode byte) = 2
+kindNumber (Ticks count) = 3
+
+abbrev pub endNumber : End → ℕ
+endNumber Eop = 0
+endNumber Eep = 1
+
 -- Kind 1 is a packet: end 0 or 1, body at most 4,096. Kinds 2, a Time-Code, and 3, ticks, need link and end 0 and a body of 1 and of 4.
 abbrev pub isRight : ℕ → ℕ → ℕ → ℕ → Bool
 isRight kind link end size =
@@ -28,9 +38,9 @@ bodySize s = number (part 5 2 s)
 abbrev pub isHead : List ℕ → Bool
 isHead s = eqb (getD s 0 0) 0x5A && eqb (getD s 1 0) 0x57 && isRight (getD s 2 0) (getD s 3 0) (getD s 4 0) (bodySize s)
 
--- End 0 is EOP, 1 is EEP.
+-- From numbers back. That no right head falls under the last case wrongly is `kind-told` and `packet-told`, in RecordLaws.
 abbrev pub endOf : ℕ → End
-endOf byte = cond (eqb byte 0) Eop Eep
+endOf byte = cond (eqb byte (endNumber Eop)) Eop Eep
 
 -- What a right record asks for.
 abbrev pub itemOf : List ℕ → Item

@@ -1,13 +1,20 @@
--- The lines of text (document 01, 'Bench program'), as ASCII codes.
+-- The lines of text (document 01, 'Bench program'), as bytes.
 use mathlib.Core.Bool.{cond}
 use mathlib.Core.List.{List, [], _∷_, _++_}
 use Prim.Native.Nat.{ℕ, zero, suc, _+_, _/_, _%_}
+use Prim.Native.Char.{code}
+use Prim.Native.String.{String, [] as none, _∷_ as _then_}
 use lib.Dec.{ltb}
 use lib.ListN.{length}
 use Rattle.unit.specs.Fate.{fateNumber, fateStatus}
 use Rattle.unit.specs.declared.fate.Fate.{Fate}
 use Rattle.unit.specs.declared.fate.Told.{Told}
 use Rattle.unit.specs.declared.fate.Told.the-variants.{Nothing, Byte}
+
+-- A text as the codes of its characters, which are ASCII here.
+abbrev pub ascii : String → List ℕ
+ascii none = []
+ascii (c then text) = code c ∷ ascii text
 
 -- A digit below 16: '0' to '9', 'a' to 'f'.
 abbrev pub glyph : ℕ → ℕ
@@ -46,13 +53,9 @@ abbrev pub replyText : List ℕ → List ℕ
 replyText [] = decimal 0
 replyText (b ∷ bs) = spaced (decimal (length (b ∷ bs))) ++ hexes (b ∷ bs)
 
--- The first line: item fate status reply.
+-- The first line.
 abbrev pub heading : List ℕ
-heading = ended (
-    spaced (0x69 ∷ 0x74 ∷ 0x65 ∷ 0x6D ∷ [])
-    ++ spaced (0x66 ∷ 0x61 ∷ 0x74 ∷ 0x65 ∷ [])
-    ++ spaced (0x73 ∷ 0x74 ∷ 0x61 ∷ 0x74 ∷ 0x75 ∷ 0x73 ∷ [])
-    ++ (0x72 ∷ 0x65 ∷ 0x70 ∷ 0x6C ∷ 0x79 ∷ []))
+heading = ended (ascii "item fate status reply")
 
 -- The line of record n.
 unfoldable pub recordLine : ℕ → Fate → List ℕ → List ℕ
@@ -61,7 +64,7 @@ recordLine n fate reply =
 
 -- The last line: end with the number of records, or bad with an offset.
 abbrev pub endLine : ℕ → List ℕ
-endLine n = spaced (0x65 ∷ 0x6E ∷ 0x64 ∷ []) ++ ended (decimal n)
+endLine n = spaced (ascii "end") ++ ended (decimal n)
 
 abbrev pub badLine : ℕ → List ℕ
-badLine n = spaced (0x62 ∷ 0x61 ∷ 0x64 ∷ []) ++ ended (decimal n)
+badLine n = spaced (ascii "bad") ++ ended (decimal n)

@@ -2,20 +2,21 @@
 -- document 01 by a model written apart from these definitions.
 use mathlib.Core.Path.{_≡_, refl}
 use mathlib.Core.Bool.{true, false}
-use mathlib.Core.List.{List, [], _∷_, map}
+use mathlib.Core.List.{List, [], _∷_, _++_, map}
 use Prim.Native.Nat.{ℕ, _^_, _-_}
-use lib.ListN.{replicate, take}
+use lib.ListN.{length, replicate, take}
 use Rattle.octets.specs.Crc.{crc, mirrored, bits, remainder, message, modulo}
 use Rattle.packets.specs.Instruction.{kindOf}
 use Rattle.packets.specs.Path.{withoutLeadingZeros, orOneZero, pathOf, samePath}
 use Rattle.packets.specs.Reading.{readCommand, readProtocol, readPacket}
 use Rattle.packets.specs.Reply.{replyWith, replyLength, replied}
+use Rattle.packets.specs.Time.{readTime}
 use Rattle.packets.specs.declared.reading.End.{End}
-use Rattle.packets.specs.declared.reading.End.the-variants.{Eop}
+use Rattle.packets.specs.declared.reading.End.the-variants.{Eop, Eep}
 use Rattle.packets.specs.declared.reading.Refusal.the-variants.{Incomplete, UnknownProtocol, ExtendedProtocol, Reply, HeaderCrc}
 use Rattle.unit.specs.Fate.{byteOf, fateNumber}
 use Rattle.unit.specs.Counters.{countedFor}
-use Rattle.unit.specs.Clock.{afterCode, afterTicks}
+use Rattle.unit.specs.Clock.{afterTime, afterCode, afterTicks}
 use Rattle.unit.specs.Owner.{swapped}
 use Rattle.unit.specs.Fields.{above, aboveField, fieldOf, rowOf, valuesOf, linkInformation, dividerWritten}
 use Rattle.unit.specs.Usable.{usableUnit, usable}
@@ -31,8 +32,8 @@ use Rattle.unit.specs.declared.fate.Fate.the-variants.{TimeChanged, Unus
 use Rattle.unit.specs.declared.clock.Clock.{Clock}
 use Rattle.unit.specs.declared.clock.Waiting.the-variants.{NoValue, Value}
 use Rattle.unit.specs.declared.owner.Owner.{Owner}
-use Rattle.unit.specs.declared.windows.Window.{Window}
 use Rattle.unit.specs.declared.unit.Unit.{Unit as TheUnit}
+use Rattle.unit.proofs.ExampleParts.{window, windows, owner, clock, fields, unit}
 
 -- ---- document 01's numbers: statuses and fates
 
@@ -66,7 +67,7 @@ rolls-over = refl
 -- ---- time: ET 2^56-1 and one tick is 0; round the wrap of the Time-Code
 
 abbrev at : ℕ → ℕ → Clock
-at last et = record { last = last; elapsed = record { value = et; epoch = 0x9F }; waiting = NoValue }
+at last et = clock last et NoValue
 
 one-tick : afterTicks (at 5 (2 ^ 56 - 1)) 1 ≡ at 5 0
 unfolding afterTicks
@@ -100,42 +101,18 @@ address-parts = (refl, refl)
 
 -- ---- packets to a unit with 8 bytes of memory, 10 to 17, and one window over them; the rest is the bench's
 
-abbrev none : Window
-none = record { start = 0; end = 0; read = false; write = false }
-
 abbrev bytes : List ℕ
 bytes = 0x10 ∷ 0x11 ∷ 0x12 ∷ 0x13 ∷ 0x14 ∷ 0x15 ∷ 0x16 ∷ 0x17 ∷ []
 
--- the owner of some fields, Link Information held with all bits set
+-- its owner, and Link Information as held
 abbrev unit-of : Owner → ℕ → TheUnit
-unit-of o information = record {
-  logical = 0x43;
-  key = 0x2A;
-  number = 0xF0;
-  links = 4;
-  windows = record { table = record { start = 0; end = 8; read = true; write = true } ∷ replicate 15 none; count = 1 };
-  fields = record {
-    vendor = 0;
-    version = 0;
-    status = 0;
-    active = 0;
-    information = information;
-    maker = 0;
-    serial = 0;
-    base = 0;
-    range = 0;
-    divider = 0;
-  };
-  owner = o;
-  clock = at 0 0;
-  counters = replicate 11 0;
-}
+unit-of o information = unit 0xF0 4 (windows 1 (window 0 8 true true ∷ replicate 15 (window 0 0 false false))) information o (at 0 0)
 
 abbrev bench : TheUnit
-bench = unit-of (record { device = 0; initiator = 0; path = record { bytes = replicate 12 0; count = 0 }; link = 0 }) 0
+bench = unit-of (owner 0 0 0 0) 0
 
 abbrev owned : TheUnit
-owned = unit-of (record { device = 5; initiator = 0x67; path = record { bytes = replicate 12 0; count = 0 }; link = 1 }) 0xFFFFFFFF
+owned = unit-of (owner 5 0x67 0 1) 0xFFFFFFFF
 
 -- fate, memory, reply and owner
 abbrev shown : Outcome → Fate × List ℕ × List ℕ × Owner
@@ -295,7 +272,7 @@ field-commands :
       bytes,
       0x00 ∷ 0x67 ∷ 0x03 ∷ 0x1D ∷ 0x00 ∷ 0xFE ∷ 0x00 ∷ 0x01 ∷ 0x00 ∷ 0x00 ∷ 0x00 ∷ 0x04 ∷ 0xBB ∷ 0x00 ∷ 0x00 ∷ 0x00 ∷ 0x00
           ∷ 0x00 ∷ [],
-      record { device = 5; initiator = 0x67; path = record { bytes = replicate 12 0; count = 1 }; link = 1 },
+      owner 5 0x67 1 1,
     ))
     -- a release clears the owner
     × (to owned (0xFE ∷ 0x03 ∷ 0x5C ∷ 0x00 ∷ 0x67 ∷ 0x00 ∷ 0x01 ∷ 0x00 ∷ 0x00 ∷ 0x00 ∷ 0x00 ∷ 0x08 ∷ 0x00 ∷ 0x00 ∷ 0x08 ∷ 0xA2 ∷ 0x00 ∷ 0x00 ∷ 0x00
@@ -332,3 +309,229 @@ field-commands :
     ))
 unfolding takePacket judged decidedOn decidedByData plannedFor headerStatus openingStatus spanStatus spanSize isAuthorised fieldsStatus namesFields rowOf wantedCount dataStatus replyCount stored dataFor repliedTo changed swapped fieldWritten countedFor usable usableUnit valuesOf linkInformation dividerWritten readPacket readProtocol readCommand kindOf withoutLeadingZeros orOneZero pathOf samePath replyLength replied replyWith crc mirrored bits remainder message modulo
 field-commands = (refl, refl, refl, refl, refl, refl, refl, refl, refl, refl, refl)
+
+-- ---- packets with all that they leave: the whole unit, memory and reply buffer. They show that each part of what is given gets to where it
+-- decides: the end, the link, the sender, the place of the data, what is lent. Worked out by hand; the CRCs by a few lines written from the polynomial
+
+-- a unit with address 43, key 2A, time number F3 and one window that ends there
+abbrev windowed : ℕ → Owner → ℕ → Clock → List ℕ → TheUnit
+windowed end o divider c counters = record {
+  logical = 0x43;
+  key = 0x2A;
+  number = 0xF3;
+  links = 4;
+  windows = windows 1 (window 0 end true true ∷ []);
+  fields = fields divider;
+  owner = o;
+  clock = c;
+  counters = counters;
+}
+
+-- one whose window ends with the memory: owner, divider, clock, counters
+abbrev station : Owner → ℕ → Clock → List ℕ → TheUnit
+station = windowed 8
+
+-- no owner; Device ID 5, claimed by initiator 67 without a path on link 1; and with the path 07 09 on link 3
+abbrev nobody : Owner
+nobody = owner 0 0 0 0
+
+abbrev near : Owner
+near = owner 5 0x67 0 1
+
+abbrev far : Owner
+far = record { device = 5; initiator = 0x67; path = record { bytes = replicate 10 0 ++ (0x07 ∷ 0x09 ∷ []); count = 2 }; link = 3 }
+
+-- last Time-Code; ET is under way, and a value waits
+abbrev ticking : ℕ → Clock
+ticking last = clock last 0x7400000 (Value (record { value = 0xA000000; epoch = 0xAF }))
+
+-- every counter was 7; a fate from 11 to 20 is counted in its own and in the total
+abbrev sevens : List ℕ
+sevens = replicate 11 7
+
+abbrev counting : ℕ → List ℕ
+counting fate = replicate (fate - 11) 7 ++ (8 ∷ replicate (20 - fate) 7) ++ (8 ∷ [])
+
+-- before; and with nothing changed but that a fate is counted
+abbrev start : Owner → TheUnit
+start o = station o 0xABCD0005 (ticking 5) sevens
+
+abbrev same : Owner → ℕ → TheUnit
+same o fate = station o 0xABCD0005 (ticking 5) (counting fate)
+
+abbrev past-memory : TheUnit
+past-memory = windowed 9 near 0xABCD0005 (ticking 5) sevens
+
+-- a packet with its end, on a link, with a reply buffer of some length
+abbrev taking : TheUnit → List ℕ → End → ℕ → ℕ → Outcome
+taking u p end link room = takePacket u (record { packet = p; end = end; link = link }) (record { memory = bytes; reply = replicate room 0xEE })
+
+-- unit, fate, memory and reply after it; what the reply does not need of the buffer is as it was
+abbrev leaving : TheUnit → Fate → List ℕ → List ℕ → ℕ → Outcome
+leaving u fate memory reply room = record {
+  answer = record { unit = u; fate = fate; length = length reply };
+  memory = memory;
+  reply = reply ++ replicate (room - length reply) 0xEE;
+}
+
+-- ended by EEP, all else right: status 7
+ended-by-eep :
+    -- a verified write keeps memory
+    (taking (start near) (0x43 ∷ 0x01 ∷ 0x7C ∷ 0x2A ∷ 0x67 ∷ 0xA1 ∷ 0xB2 ∷ 0x00 ∷ 0x00 ∷ 0x00 ∷ 0x00 ∷ 0x02 ∷ 0x00 ∷ 0x00 ∷ 0x02 ∷ 0x56 ∷ 0x61 ∷ 0x62
+    ∷ 0xB8 ∷ []) Eep 1 40
+    ≡ leaving (same near 20) (Replied EndedByEep) bytes (0x67 ∷ 0x01 ∷ 0x3C ∷ 0x07 ∷ 0x43 ∷ 0xA1 ∷ 0xB2 ∷ 0x45 ∷ []) 40)
+    -- a write without verify has stored
+    × (taking (start near) (0x43 ∷ 0x01 ∷ 0x6C ∷ 0x2A ∷ 0x67 ∷ 0xA1 ∷ 0xB2 ∷ 0x00 ∷ 0x00 ∷ 0x00 ∷ 0x00 ∷ 0x02 ∷ 0x00 ∷ 0x00 ∷ 0x02 ∷ 0x6B ∷ 0x61 ∷ 0x62
+    ∷ 0xB8 ∷ []) Eep 1 40
+    ≡ leaving (same near 20) (Replied EndedByEep) (0x10 ∷ 0x11 ∷ 0x61 ∷ 0x62 ∷ 0x14 ∷ 0x15 ∷ 0x16 ∷ 0x17 ∷ []) (0x67 ∷ 0x01 ∷ 0x2C ∷ 0x07 ∷ 0x43 ∷ 0xA1
+    ∷ 0xB2 ∷ 0xDD ∷ []) 40)
+    -- so also where no reply was asked for
+    × (taking (start near) (0x43 ∷ 0x01 ∷ 0x64 ∷ 0x2A ∷ 0x67 ∷ 0xA1 ∷ 0xB2 ∷ 0x00 ∷ 0x00 ∷ 0x00 ∷ 0x00 ∷ 0x02 ∷ 0x00 ∷ 0x00 ∷ 0x02 ∷ 0x95 ∷ 0x61 ∷ 0x62
+    ∷ 0xB8 ∷ []) Eep 1 40
+    ≡ leaving (same near 17) (NotObeyed EndedByEep) (0x10 ∷ 0x11 ∷ 0x61 ∷ 0x62 ∷ 0x14 ∷ 0x15 ∷ 0x16 ∷ 0x17 ∷ []) [] 40)
+    -- an RMW keeps memory
+    × (taking (start near) (0x43 ∷ 0x01 ∷ 0x5C ∷ 0x2A ∷ 0x67 ∷ 0xA1 ∷ 0xB2 ∷ 0x00 ∷ 0x00 ∷ 0x00 ∷ 0x00 ∷ 0x05 ∷ 0x00 ∷ 0x00 ∷ 0x02 ∷ 0x0A ∷ 0xAA ∷ 0x0F
+    ∷ 0xC9 ∷ []) Eep 1 40
+    ≡ leaving (same near 20) (Replied EndedByEep) bytes (0x67 ∷ 0x01 ∷ 0x1C ∷ 0x07 ∷ 0x43 ∷ 0xA1 ∷ 0xB2 ∷ 0x00 ∷ 0x00 ∷ 0x00 ∷ 0x00 ∷ 0x0C ∷ 0x00 ∷ []) 40)
+    -- a read has no data
+    × (taking (start near) (0x43 ∷ 0x01 ∷ 0x4C ∷ 0x2A ∷ 0x67 ∷ 0xA1 ∷ 0xB2 ∷ 0x00 ∷ 0x00 ∷ 0x00 ∷ 0x00 ∷ 0x06 ∷ 0x00 ∷ 0x00 ∷ 0x02 ∷ 0x62 ∷ []) Eep 1 40
+    ≡ leaving (same near 20) (Replied EndedByEep) bytes (0x67 ∷ 0x01 ∷ 0x0C ∷ 0x07 ∷ 0x43 ∷ 0xA1 ∷ 0xB2 ∷ 0x00 ∷ 0x00 ∷ 0x00 ∷ 0x00 ∷ 0x8F ∷ 0x00 ∷ []) 40)
+    -- nor has a read of fields
+    × (taking (start near) (0xFE ∷ 0x03 ∷ 0x4C ∷ 0x00 ∷ 0x67 ∷ 0xA1 ∷ 0xB2 ∷ 0x00 ∷ 0x00 ∷ 0x08 ∷ 0x00 ∷ 0x02 ∷ 0x00 ∷ 0x00 ∷ 0x08 ∷ 0xB5 ∷ []) Eep 1 40
+    ≡ leaving (same near 20) (Replied EndedByEep) bytes (0x67 ∷ 0x03 ∷ 0x0C ∷ 0x07 ∷ 0xFE ∷ 0xA1 ∷ 0xB2 ∷ 0x00 ∷ 0x00 ∷ 0x00 ∷ 0x00 ∷ 0xF0 ∷ 0x00 ∷ []) 40)
+    -- the owner's release keeps the owner
+    × (taking (start near) (0xFE ∷ 0x03 ∷ 0x5C ∷ 0x00 ∷ 0x67 ∷ 0xA1 ∷ 0xB2 ∷ 0x00 ∷ 0x00 ∷ 0x00 ∷ 0x00 ∷ 0x08 ∷ 0x00 ∷ 0x00 ∷ 0x08 ∷ 0xCE ∷ 0x00 ∷ 0x00
+    ∷ 0x00 ∷ 0x00 ∷ 0x00 ∷ 0x00 ∷ 0x00 ∷ 0x05 ∷ 0x96 ∷ []) Eep 1 40
+    ≡ leaving (same near 20) (Replied EndedByEep) bytes (0x67 ∷ 0x03 ∷ 0x1C ∷ 0x07 ∷ 0xFE ∷ 0xA1 ∷ 0xB2 ∷ 0x00 ∷ 0x00 ∷ 0x00 ∷ 0x00 ∷ 0x73 ∷ 0x00 ∷ []) 40)
+    -- the owner's reset keeps the last Time-Code
+    × (taking (start near) (0xFE ∷ 0x03 ∷ 0x7C ∷ 0x00 ∷ 0x67 ∷ 0xA1 ∷ 0xB2 ∷ 0x00 ∷ 0x00 ∷ 0x08 ∷ 0x00 ∷ 0x00 ∷ 0x00 ∷ 0x00 ∷ 0x04 ∷ 0x22 ∷ 0x00 ∷ 0x00
+    ∷ 0x00 ∷ 0x00 ∷ 0x00 ∷ []) Eep 1 40
+    ≡ leaving (same near 20) (Replied EndedByEep) bytes (0x67 ∷ 0x03 ∷ 0x3C ∷ 0x07 ∷ 0xFE ∷ 0xA1 ∷ 0xB2 ∷ 0xF5 ∷ []) 40)
+    -- what the header refuses keeps its status: another key
+    × (taking (start near) (0x43 ∷ 0x01 ∷ 0x4C ∷ 0x2B ∷ 0x67 ∷ 0xA1 ∷ 0xB2 ∷ 0x00 ∷ 0x00 ∷ 0x00 ∷ 0x00 ∷ 0x06 ∷ 0x00 ∷ 0x00 ∷ 0x02 ∷ 0x30 ∷ []) Eep 1 40
+    ≡ leaving (same near 20) (Replied WrongKey) bytes (0x67 ∷ 0x01 ∷ 0x0C ∷ 0x03 ∷ 0x43 ∷ 0xA1 ∷ 0xB2 ∷ 0x00 ∷ 0x00 ∷ 0x00 ∷ 0x00 ∷ 0xF9 ∷ 0x00 ∷ []) 40)
+unfolding takePacket judged decidedOn decidedByData plannedFor headerStatus openingStatus spanStatus spanSize isAuthorised fieldsStatus namesFields rowOf wantedCount dataStatus replyCount stored dataFor repliedTo changed swapped fieldWritten countedFor usable usableUnit valuesOf linkInformation dividerWritten readPacket readProtocol readCommand kindOf withoutLeadingZeros orOneZero pathOf samePath replyLength replied replyWith crc mirrored bits remainder message modulo
+ended-by-eep = (refl, refl, refl, refl, refl, refl, refl, refl, refl)
+
+-- the owner's writes and swaps
+owner-writes :
+    -- Time-Code counter: a whole word of 0 resets it
+    (taking (start near) (0xFE ∷ 0x03 ∷ 0x7C ∷ 0x00 ∷ 0x67 ∷ 0xA1 ∷ 0xB2 ∷ 0x00 ∷ 0x00 ∷ 0x08 ∷ 0x00 ∷ 0x00 ∷ 0x00 ∷ 0x00 ∷ 0x04 ∷ 0x22 ∷ 0x00 ∷ 0x00
+    ∷ 0x00 ∷ 0x00 ∷ 0x00 ∷ []) Eop 1 40
+    ≡ leaving (station near 0xABCD0005 (ticking 0) (counting 20)) (Replied Success) bytes (0x67 ∷ 0x03 ∷ 0x3C ∷ 0x00 ∷ 0xFE ∷ 0xA1 ∷ 0xB2 ∷ 0xD3 ∷ []) 40)
+    -- others are ignored
+    × (taking (start near) (0xFE ∷ 0x03 ∷ 0x7C ∷ 0x00 ∷ 0x67 ∷ 0xA1 ∷ 0xB2 ∷ 0x00 ∷ 0x00 ∷ 0x08 ∷ 0x00 ∷ 0x00 ∷ 0x00 ∷ 0x00 ∷ 0x04 ∷ 0x22 ∷ 0x00 ∷ 0x00
+    ∷ 0x00 ∷ 0x01 ∷ 0x91 ∷ []) Eop 1 40
+    ≡ leaving (same near 20) (Replied Success) bytes (0x67 ∷ 0x03 ∷ 0x3C ∷ 0x00 ∷ 0xFE ∷ 0xA1 ∷ 0xB2 ∷ 0xD3 ∷ []) 40)
+    -- a word with a low half of 0 too
+    × (taking (start near) (0xFE ∷ 0x03 ∷ 0x7C ∷ 0x00 ∷ 0x67 ∷ 0xA1 ∷ 0xB2 ∷ 0x00 ∷ 0x00 ∷ 0x08 ∷ 0x00 ∷ 0x00 ∷ 0x00 ∷ 0x00 ∷ 0x04 ∷ 0x22 ∷ 0x00 ∷ 0x01
+    ∷ 0x00 ∷ 0x00 ∷ 0xD0 ∷ []) Eop 1 40
+    ≡ leaving (same near 20) (Replied Success) bytes (0x67 ∷ 0x03 ∷ 0x3C ∷ 0x00 ∷ 0xFE ∷ 0xA1 ∷ 0xB2 ∷ 0xD3 ∷ []) 40)
+    -- divider, from 4 to 10 hexadecimal: the low half is written
+    × (taking (start near) (0xFE ∷ 0x03 ∷ 0x7C ∷ 0x00 ∷ 0x67 ∷ 0xA1 ∷ 0xB2 ∷ 0x00 ∷ 0x00 ∷ 0x08 ∷ 0x00 ∷ 0x03 ∷ 0x00 ∷ 0x00 ∷ 0x04 ∷ 0x77 ∷ 0x00 ∷ 0x00
+    ∷ 0x00 ∷ 0x08 ∷ 0x0E ∷ []) Eop 1 40
+    ≡ leaving (station near 0xABCD0008 (ticking 5) (counting 20)) (Replied Success) bytes (0x67 ∷ 0x03 ∷ 0x3C ∷ 0x00 ∷ 0xFE ∷ 0xA1 ∷ 0xB2 ∷ 0xD3 ∷ []) 40)
+    -- the high half of the word does not count
+    × (taking (start near) (0xFE ∷ 0x03 ∷ 0x7C ∷ 0x00 ∷ 0x67 ∷ 0xA1 ∷ 0xB2 ∷ 0x00 ∷ 0x00 ∷ 0x08 ∷ 0x00 ∷ 0x03 ∷ 0x00 ∷ 0x00 ∷ 0x04 ∷ 0x77 ∷ 0xFF ∷ 0xFF
+    ∷ 0x00 ∷ 0x10 ∷ 0x43 ∷ []) Eop 1 40
+    ≡ leaving (station near 0xABCD0010 (ticking 5) (counting 20)) (Replied Success) bytes (0x67 ∷ 0x03 ∷ 0x3C ∷ 0x00 ∷ 0xFE ∷ 0xA1 ∷ 0xB2 ∷ 0xD3 ∷ []) 40)
+    -- below the minimum
+    × (taking (start near) (0xFE ∷ 0x03 ∷ 0x7C ∷ 0x00 ∷ 0x67 ∷ 0xA1 ∷ 0xB2 ∷ 0x00 ∷ 0x00 ∷ 0x08 ∷ 0x00 ∷ 0x03 ∷ 0x00 ∷ 0x00 ∷ 0x04 ∷ 0x77 ∷ 0x00 ∷ 0x00
+    ∷ 0x00 ∷ 0x03 ∷ 0x72 ∷ []) Eop 1 40
+    ≡ leaving (same near 20) (Replied Success) bytes (0x67 ∷ 0x03 ∷ 0x3C ∷ 0x00 ∷ 0xFE ∷ 0xA1 ∷ 0xB2 ∷ 0xD3 ∷ []) 40)
+    -- above the maximum
+    × (taking (start near) (0xFE ∷ 0x03 ∷ 0x7C ∷ 0x00 ∷ 0x67 ∷ 0xA1 ∷ 0xB2 ∷ 0x00 ∷ 0x00 ∷ 0x08 ∷ 0x00 ∷ 0x03 ∷ 0x00 ∷ 0x00 ∷ 0x04 ∷ 0x77 ∷ 0x00 ∷ 0x00
+    ∷ 0x00 ∷ 0x11 ∷ 0x8D ∷ []) Eop 1 40
+    ≡ leaving (same near 20) (Replied Success) bytes (0x67 ∷ 0x03 ∷ 0x3C ∷ 0x00 ∷ 0xFE ∷ 0xA1 ∷ 0xB2 ∷ 0xD3 ∷ []) 40)
+    -- from 5 to 9: the owner is kept
+    × (taking (start near) (0xFE ∷ 0x03 ∷ 0x5C ∷ 0x00 ∷ 0x67 ∷ 0xA1 ∷ 0xB2 ∷ 0x00 ∷ 0x00 ∷ 0x00 ∷ 0x00 ∷ 0x08 ∷ 0x00 ∷ 0x00 ∷ 0x08 ∷ 0xCE ∷ 0x00 ∷ 0x00
+    ∷ 0x00 ∷ 0x09 ∷ 0x00 ∷ 0x00 ∷ 0x00 ∷ 0x05 ∷ 0x33 ∷ []) Eop 1 40
+    ≡ leaving (same (owner 9 0x67 0 1) 20) (Replied Success) bytes (0x67 ∷ 0x03 ∷ 0x1C ∷ 0x00 ∷ 0xFE ∷ 0xA1 ∷ 0xB2 ∷ 0x00 ∷ 0x00 ∷ 0x00 ∷ 0x04 ∷ 0xC4
+    ∷ 0x00 ∷ 0x00 ∷ 0x00 ∷ 0x05 ∷ 0x96 ∷ []) 40)
+    -- a release
+    × (taking (start near) (0xFE ∷ 0x03 ∷ 0x5C ∷ 0x00 ∷ 0x67 ∷ 0xA1 ∷ 0xB2 ∷ 0x00 ∷ 0x00 ∷ 0x00 ∷ 0x00 ∷ 0x08 ∷ 0x00 ∷ 0x00 ∷ 0x08 ∷ 0xCE ∷ 0x00 ∷ 0x00
+    ∷ 0x00 ∷ 0x00 ∷ 0x00 ∷ 0x00 ∷ 0x00 ∷ 0x05 ∷ 0x96 ∷ []) Eop 1 40
+    ≡ leaving (same nobody 20) (Replied Success) bytes (0x67 ∷ 0x03 ∷ 0x1C ∷ 0x00 ∷ 0xFE ∷ 0xA1 ∷ 0xB2 ∷ 0x00 ∷ 0x00 ∷ 0x00 ∷ 0x04 ∷ 0xC4 ∷ 0x00 ∷ 0x00
+    ∷ 0x00 ∷ 0x05 ∷ 0x96 ∷ []) 40)
+unfolding takePacket judged decidedOn decidedByData plannedFor headerStatus openingStatus spanStatus spanSize isAuthorised fieldsStatus namesFields rowOf wantedCount dataStatus replyCount stored dataFor repliedTo changed swapped fieldWritten countedFor usable usableUnit valuesOf linkInformation dividerWritten readPacket readProtocol readCommand kindOf withoutLeadingZeros orOneZero pathOf samePath replyLength replied replyWith crc mirrored bits remainder message modulo
+owner-writes = (refl, refl, refl, refl, refl, refl, refl, refl, refl)
+
+-- with a reply address 00 00 07 09, path 07 09: the data stand behind a header of 20 bytes
+behind-a-reply-address :
+    -- a verified write
+    (taking (start nobody) (0x43 ∷ 0x01 ∷ 0x7D ∷ 0x2A ∷ 0x00 ∷ 0x00 ∷ 0x07 ∷ 0x09 ∷ 0x67 ∷ 0xA1 ∷ 0xB2 ∷ 0x00 ∷ 0x00 ∷ 0x00 ∷ 0x00 ∷ 0x01 ∷ 0x00 ∷ 0x00
+    ∷ 0x03 ∷ 0x13 ∷ 0x61 ∷ 0x62 ∷ 0x63 ∷ 0xF0 ∷ []) Eop 2 40
+    ≡ leaving (same nobody 20) (Replied Success) (0x10 ∷ 0x61 ∷ 0x62 ∷ 0x63 ∷ 0x14 ∷ 0x15 ∷ 0x16 ∷ 0x17 ∷ []) (0x07 ∷ 0x09 ∷ 0x67 ∷ 0x01 ∷ 0x3D ∷ 0x00
+    ∷ 0x43 ∷ 0xA1 ∷ 0xB2 ∷ 0x8A ∷ []) 40)
+    -- RMW of two bytes: data AA CC, masks 0F F0, old 14 15
+    × (taking (start nobody) (0x43 ∷ 0x01 ∷ 0x5D ∷ 0x2A ∷ 0x00 ∷ 0x00 ∷ 0x07 ∷ 0x09 ∷ 0x67 ∷ 0xA1 ∷ 0xB2 ∷ 0x00 ∷ 0x00 ∷ 0x00 ∷ 0x00 ∷ 0x04 ∷ 0x00 ∷ 0x00
+    ∷ 0x04 ∷ 0x85 ∷ 0xAA ∷ 0xCC ∷ 0x0F ∷ 0xF0 ∷ 0xEB ∷ []) Eop 2 40
+    ≡ leaving (same nobody 20) (Replied Success) (0x10 ∷ 0x11 ∷ 0x12 ∷ 0x13 ∷ 0x1A ∷ 0xC5 ∷ 0x16 ∷ 0x17 ∷ []) (0x07 ∷ 0x09 ∷ 0x67 ∷ 0x01 ∷ 0x1D ∷ 0x00
+    ∷ 0x43 ∷ 0xA1 ∷ 0xB2 ∷ 0x00 ∷ 0x00 ∷ 0x00 ∷ 0x02 ∷ 0x73 ∷ 0x14 ∷ 0x15 ∷ 0xEA ∷ []) 40)
+    -- a claim on link 3
+    × (taking (start nobody) (0xFE ∷ 0x03 ∷ 0x5D ∷ 0x00 ∷ 0x00 ∷ 0x00 ∷ 0x07 ∷ 0x09 ∷ 0x67 ∷ 0xA1 ∷ 0xB2 ∷ 0x00 ∷ 0x00 ∷ 0x00 ∷ 0x00 ∷ 0x08 ∷ 0x00 ∷ 0x00
+    ∷ 0x08 ∷ 0x0E ∷ 0x00 ∷ 0x00 ∷ 0x00 ∷ 0x05 ∷ 0x00 ∷ 0x00 ∷ 0x00 ∷ 0x00 ∷ 0xCF ∷ []) Eop 3 40
+    ≡ leaving (same far 20) (Replied Success) bytes (0x07 ∷ 0x09 ∷ 0x67 ∷ 0x03 ∷ 0x1D ∷ 0x00 ∷ 0xFE ∷ 0xA1 ∷ 0xB2 ∷ 0x00 ∷ 0x00 ∷ 0x00 ∷ 0x04 ∷ 0xE8 ∷ 0x00
+    ∷ 0x00 ∷ 0x00 ∷ 0x00 ∷ 0x00 ∷ []) 40)
+    -- that owner's write to the divider
+    × (taking (start far) (0xFE ∷ 0x03 ∷ 0x7D ∷ 0x00 ∷ 0x00 ∷ 0x00 ∷ 0x07 ∷ 0x09 ∷ 0x67 ∷ 0xA1 ∷ 0xB2 ∷ 0x00 ∷ 0x00 ∷ 0x08 ∷ 0x00 ∷ 0x03 ∷ 0x00 ∷ 0x00
+    ∷ 0x04 ∷ 0xD1 ∷ 0x00 ∷ 0x00 ∷ 0x00 ∷ 0x08 ∷ 0x0E ∷ []) Eop 3 40
+    ≡ leaving (station far 0xABCD0008 (ticking 5) (counting 20)) (Replied Success) bytes (0x07 ∷ 0x09 ∷ 0x67 ∷ 0x03 ∷ 0x3D ∷ 0x00 ∷ 0xFE ∷ 0xA1 ∷ 0xB2
+    ∷ 0x3A ∷ []) 40)
+    -- without the path: not the owner
+    × (taking (start far) (0xFE ∷ 0x03 ∷ 0x7C ∷ 0x00 ∷ 0x67 ∷ 0xA1 ∷ 0xB2 ∷ 0x00 ∷ 0x00 ∷ 0x08 ∷ 0x00 ∷ 0x03 ∷ 0x00 ∷ 0x00 ∷ 0x04 ∷ 0x77 ∷ 0x00 ∷ 0x00
+    ∷ 0x00 ∷ 0x08 ∷ 0x0E ∷ []) Eop 3 40
+    ≡ leaving (same far 20) (Replied NotOwner) bytes (0x67 ∷ 0x03 ∷ 0x3C ∷ 0xF0 ∷ 0xFE ∷ 0xA1 ∷ 0xB2 ∷ 0x98 ∷ []) 40)
+    -- from another initiator
+    × (taking (start far) (0xFE ∷ 0x03 ∷ 0x7D ∷ 0x00 ∷ 0x00 ∷ 0x00 ∷ 0x07 ∷ 0x09 ∷ 0x68 ∷ 0xA1 ∷ 0xB2 ∷ 0x00 ∷ 0x00 ∷ 0x08 ∷ 0x00 ∷ 0x03 ∷ 0x00 ∷ 0x00
+    ∷ 0x04 ∷ 0xB7 ∷ 0x00 ∷ 0x00 ∷ 0x00 ∷ 0x08 ∷ 0x0E ∷ []) Eop 3 40
+    ≡ leaving (same far 20) (Replied NotOwner) bytes (0x07 ∷ 0x09 ∷ 0x68 ∷ 0x03 ∷ 0x3D ∷ 0xF0 ∷ 0xFE ∷ 0xA1 ∷ 0xB2 ∷ 0xCC ∷ []) 40)
+    -- a path of twelve bytes: anyone reads rate range and divider
+    × (taking (start far) (0xFE ∷ 0x03 ∷ 0x4F ∷ 0x00 ∷ 0x01 ∷ 0x02 ∷ 0x03 ∷ 0x04 ∷ 0x05 ∷ 0x06 ∷ 0x07 ∷ 0x08 ∷ 0x09 ∷ 0x0A ∷ 0x0B ∷ 0x0C ∷ 0x67 ∷ 0xA1
+    ∷ 0xB2 ∷ 0x00 ∷ 0x00 ∷ 0x08 ∷ 0x00 ∷ 0x02 ∷ 0x00 ∷ 0x00 ∷ 0x08 ∷ 0xA2 ∷ []) Eop 2 40
+    ≡ leaving (same far 20) (Replied Success) bytes (0x01 ∷ 0x02 ∷ 0x03 ∷ 0x04 ∷ 0x05 ∷ 0x06 ∷ 0x07 ∷ 0x08 ∷ 0x09 ∷ 0x0A ∷ 0x0B ∷ 0x0C ∷ 0x67 ∷ 0x03 ∷ 0x0F
+    ∷ 0x00 ∷ 0xFE ∷ 0xA1 ∷ 0xB2 ∷ 0x00 ∷ 0x00 ∷ 0x00 ∷ 0x08 ∷ 0x3A ∷ 0x00 ∷ 0x10 ∷ 0x00 ∷ 0x04 ∷ 0xAB ∷ 0xCD ∷ 0x00 ∷ 0x05 ∷ 0xCC ∷ []) 40)
+unfolding takePacket judged decidedOn decidedByData plannedFor headerStatus openingStatus spanStatus spanSize isAuthorised fieldsStatus namesFields rowOf wantedCount dataStatus replyCount stored dataFor repliedTo changed swapped fieldWritten countedFor usable usableUnit valuesOf linkInformation dividerWritten readPacket readProtocol readCommand kindOf withoutLeadingZeros orOneZero pathOf samePath replyLength replied replyWith crc mirrored bits remainder message modulo
+behind-a-reply-address = (refl, refl, refl, refl, refl, refl, refl)
+
+-- what is lent: 8 bytes of memory, and a reply buffer
+left-as-it-was :
+    -- 3: the reply of 8 bytes to a write has no room; nothing is stored or counted
+    (taking (start near) (0x43 ∷ 0x01 ∷ 0x7C ∷ 0x2A ∷ 0x67 ∷ 0xA1 ∷ 0xB2 ∷ 0x00 ∷ 0x00 ∷ 0x00 ∷ 0x00 ∷ 0x02 ∷ 0x00 ∷ 0x00 ∷ 0x02 ∷ 0x56 ∷ 0x61 ∷ 0x62
+    ∷ 0xB8 ∷ []) Eop 1 7
+    ≡ leaving (start near) NoRoom bytes [] 7)
+    -- nor the one of 17 bytes to a swap
+    × (taking (start near) (0xFE ∷ 0x03 ∷ 0x5C ∷ 0x00 ∷ 0x67 ∷ 0xA1 ∷ 0xB2 ∷ 0x00 ∷ 0x00 ∷ 0x00 ∷ 0x00 ∷ 0x08 ∷ 0x00 ∷ 0x00 ∷ 0x08 ∷ 0xCE ∷ 0x00 ∷ 0x00
+    ∷ 0x00 ∷ 0x09 ∷ 0x00 ∷ 0x00 ∷ 0x00 ∷ 0x05 ∷ 0x33 ∷ []) Eop 1 16
+    ≡ leaving (start near) NoRoom bytes [] 16)
+    -- 18: where no reply was asked for, none is needed
+    × (taking (start near) (0x43 ∷ 0x01 ∷ 0x64 ∷ 0x2A ∷ 0x67 ∷ 0xA1 ∷ 0xB2 ∷ 0x00 ∷ 0x00 ∷ 0x00 ∷ 0x00 ∷ 0x02 ∷ 0x00 ∷ 0x00 ∷ 0x02 ∷ 0x95 ∷ 0x61 ∷ 0x62
+    ∷ 0xB8 ∷ []) Eop 1 0
+    ≡ leaving (same near 18) Obeyed (0x10 ∷ 0x11 ∷ 0x61 ∷ 0x62 ∷ 0x14 ∷ 0x15 ∷ 0x16 ∷ 0x17 ∷ []) [] 0)
+    -- 2: link 5 of 4
+    × (taking (start near) (0x43 ∷ 0x01 ∷ 0x64 ∷ 0x2A ∷ 0x67 ∷ 0xA1 ∷ 0xB2 ∷ 0x00 ∷ 0x00 ∷ 0x00 ∷ 0x00 ∷ 0x02 ∷ 0x00 ∷ 0x00 ∷ 0x02 ∷ 0x95 ∷ 0x61 ∷ 0x62
+    ∷ 0xB8 ∷ []) Eop 5 40
+    ≡ leaving (start near) NoSuchLink bytes [] 40)
+    -- 1: a window ends past the memory, though not past the reply buffer
+    × (taking past-memory (0x43 ∷ 0x01 ∷ 0x64 ∷ 0x2A ∷ 0x67 ∷ 0xA1 ∷ 0xB2 ∷ 0x00 ∷ 0x00 ∷ 0x00 ∷ 0x00 ∷ 0x02 ∷ 0x00 ∷ 0x00 ∷ 0x02 ∷ 0x95 ∷ 0x61 ∷ 0x62
+    ∷ 0xB8 ∷ []) Eop 1 40
+    ≡ leaving past-memory Unusable bytes [] 40)
+    -- 13 is counted, and that is all
+    × (taking (start near) (0xFE ∷ 0x00 ∷ []) Eop 1 40
+    ≡ leaving (same near 13) (Unread ExtendedProtocol) bytes [] 40)
+unfolding takePacket judged decidedOn decidedByData plannedFor headerStatus openingStatus spanStatus spanSize isAuthorised fieldsStatus namesFields rowOf wantedCount dataStatus replyCount stored dataFor repliedTo changed swapped fieldWritten countedFor usable usableUnit valuesOf linkInformation dividerWritten readPacket readProtocol readCommand kindOf withoutLeadingZeros orOneZero pathOf samePath replyLength replied replyWith crc mirrored bits remainder message modulo
+left-as-it-was = (refl, refl, refl, refl, refl, refl)
+
+-- time packets to time number F3, while another value waits
+time-packets :
+    -- 01: ET is set at once, and nothing waits
+    (taking (start nobody) (0x43 ∷ 0xF3 ∷ 0xAF ∷ 0x01 ∷ 0x00 ∷ 0x00 ∷ 0x00 ∷ 0x12 ∷ 0x34 ∷ 0x56 ∷ 0x78 ∷ 0x67 ∷ []) Eop 1 0
+    ≡ leaving (station nobody 0xABCD0005 (record { last = 5; elapsed = record { value = 0x12345678; epoch = 0xAF }; waiting = NoValue }) (counting 19)) TimeTaken bytes [] 0)
+    -- 00: it waits in the place of the other
+    × (taking (start nobody) (0xFE ∷ 0xF3 ∷ 0x9F ∷ 0x00 ∷ 0x00 ∷ 0x00 ∷ 0x00 ∷ 0x12 ∷ 0x34 ∷ 0x56 ∷ 0x78 ∷ 0xCA ∷ []) Eop 1 0
+    ≡ leaving (station nobody 0xABCD0005 (clock 5 0x7400000 (Value (record { value = 0x12345678; epoch = 0x9F }))) (counting 19)) TimeTaken bytes [] 0)
+    -- ended by EEP it is thrown away
+    × (taking (start nobody) (0x43 ∷ 0xF3 ∷ 0xAF ∷ 0x01 ∷ 0x00 ∷ 0x00 ∷ 0x00 ∷ 0x12 ∷ 0x34 ∷ 0x56 ∷ 0x78 ∷ 0x67 ∷ []) Eep 1 0
+    ≡ leaving (same nobody 16) TimeThrownAway bytes [] 0)
+unfolding takePacket judged decidedOn decidedByData plannedFor headerStatus openingStatus spanStatus spanSize isAuthorised fieldsStatus namesFields rowOf wantedCount dataStatus replyCount stored dataFor repliedTo changed swapped fieldWritten countedFor usable usableUnit valuesOf linkInformation dividerWritten readPacket readProtocol readCommand kindOf withoutLeadingZeros orOneZero pathOf samePath replyLength replied replyWith crc mirrored bits remainder message modulo readTime afterTime
+time-packets = (refl, refl, refl)

@@ -13,4 +13,12 @@ pub mod CommandLaws
 pub mod CounterLaws
 pub mod CallLaws
 pub mod UsableLaws
+pub mod UnitLaws
+pub mod OwnerLaws
+pub mod ClockLaws
+pub mod WrittenLaws
+pub mod ExampleParts
+pub mod FieldExamples
+pub mod DecideExamples
+pub mod CallExamples
 pub mod Examples

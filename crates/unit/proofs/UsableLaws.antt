@@ -1,5 +1,5 @@
--- A usable unit is usable after any call.
-use mathlib.Core.Path.{_≡_, refl}
+-- A unit is after any call as usable as before it: what it was set up with stays, and what a call makes of clock and owner keeps within its bounds.
+use mathlib.Core.Path.{_≡_, refl, sym, _∙_}
 use mathlib.Core.Bool.{Bool, true, false, cond, not, _&&_, false≢true}
 use Prim.Native.Nat.{ℕ, _+_, _*_, _%_, _^_, _<_, _≤_}
 use native.Mathlib.Omega.{arith}
@@ -7,7 +7,7 @@ use borrow.Author.Tests.{lt-ltb, le-leb, leb-true, ltb-true}
 use lib.Dec.{eqb, leb, ltb}
 use lib.ListN.{length}
 use Rattle.octets.specs.Numbers.{Digits}
-use Rattle.octets.proofs.PlaceLaws.{first-true, second-true}
+use Rattle.octets.proofs.PlaceLaws.{second-true}
 use Rattle.packets.specs.Path.{pathOf}
 use Rattle.packets.specs.Reading.{readPacket}
 use Rattle.packets.specs.declared.path.Path.{Path}
@@ -21,11 +21,10 @@ use Rattle.unit.specs.Windows.{meets, used}
 use Rattle.unit.specs.Usable.{fitsTime, usableUnit, usable}
 use Rattle.unit.specs.Clock.{timeOf, secondsOf, setAt, afterTime, atWrap, fractionSet, afterCode, afterTicks, timeCodeWritten}
 use Rattle.unit.specs.Owner.{unowned, swapped}
-use Rattle.unit.specs.Fields.{dividerWritten}
-use Rattle.unit.specs.Act.{withClock, withFields, withOwner}
+use Rattle.unit.specs.Act.{withClock, withOwner}
 use Rattle.unit.specs.Given.{Arrived, Lent}
 use Rattle.unit.specs.Judge.{isLink}
-use Rattle.unit.specs.Calls.{takePacket, takeTimeCode, takeTicks}
+use Rattle.unit.specs.Calls.{takePacket, smallCall, takeTimeCode, takeTicks}
 use Rattle.unit.specs.declared.windows.Question.the-variants.{EndsPast}
 use Rattle.unit.specs.declared.clock.Clock.{Clock}
 use Rattle.unit.specs.declared.clock.Elapsed.{Elapsed}
@@ -33,7 +32,8 @@ use Rattle.unit.specs.declared.clock.Waiting.{Waiting}
 use Rattle.unit.specs.declared.clock.Waiting.the-variants.{NoValue, Value}
 use Rattle.unit.specs.declared.owner.Owner.{Owner}
 use Rattle.unit.specs.declared.unit.Unit.{Unit as TheUnit}
-use Rattle.unit.proofs.CommandLaws.{unit-is}
+use Rattle.unit.proofs.UnitLaws.{SetUpAs}
+use Rattle.unit.proofs.CommandLaws.{unit-is, small-is}
 
 -- ---- the causes, one by one
 
@@ -154,34 +154,33 @@ after-swap o new expected initiator path link p l k = go (eqb (o .device) expect
 
 -- ---- the calls
 
--- usable with the same memory, where the windows are the same
-with-memory : (u v : TheUnit) (n : ℕ) → usable u n ≡ true → v .windows ≡ u .windows → usableUnit v ≡ true → usable v n ≡ true
+set-up : (u : TheUnit) → SetUpAs u u
+set-up u = (refl, refl, refl, refl, refl)
+
+-- usable with a memory, where the windows are the same
+with-memory : (u v : TheUnit) (n : ℕ) → v .windows ≡ u .windows → usableUnit v ≡ usableUnit u → usable v n ≡ usable u n
 unfolding usable
-with-memory u v n e w k =
-    rw (k, w, first-true (leb 1 n && leb n 65536 && not (some (meets (EndsPast n)) (used (u .windows)))) (usableUnit u) e)
+with-memory u v n w k = rw (k, w)
 
 pub alone : (u : TheUnit) (n : ℕ) → usable u n ≡ true → usableUnit u ≡ true
 unfolding usable
 alone u n e = second-true (leb 1 n && leb n 65536 && not (some (meets (EndsPast n)) (used (u .windows)))) (usableUnit u) e
 
--- any packet of bytes
-pub usable-packet : (u : TheUnit) (p : Arrived) (lent : Lent) → Digits 256 (p .packet) → usable u (length (lent .memory)) ≡ true
-    → usable (takePacket u p lent .answer .unit) (length (lent .memory)) ≡ true
-unfolding usable usableUnit
-usable-packet u p lent d e =
-    unit-is u p lent (λ v. usable v size ≡ true) (λ f v x. x) e
-    (λ w t g. let c = afterTime (u .clock) t in
-    with-memory u (withClock u c) size e refl
-    (with-clock u c k (after-time (u .clock) t (taken-below (p .packet) (p .end) (u .logical) (u .number) t d g) (clock-works u k))))
-    (λ w there h g q a. (
-      λ x new expected. let o = swapped (u .owner) new expected (h .initiator) path (p .link) in
-          with-memory u (withOwner u o) size e refl
-          (with-owner u o k (after-swap (u .owner) new expected (h .initiator) path (p .link) (packet-path (p .packet) (u .number)) (low there) (owner-works u k))),
-      λ x word. (
-        with-memory u (withClock u (timeCodeWritten (u .clock) word)) size e refl
-            (with-clock u (timeCodeWritten (u .clock) word) k (code-written (u .clock) word (clock-works u k))),
-        with-memory u (withFields u (dividerWritten (u .fields) word)) size e refl k,
-      ),
+-- a packet changes nothing of the setup, and of bytes nothing of what is usable, whatever memory it is lent
+pub packet-set-up : (u : TheUnit) (p : Arrived) (lent : Lent) → SetUpAs u (takePacket u p lent .answer .unit)
+packet-set-up u p lent =
+    unit-is u p lent (SetUpAs u) (λ f v x. x) (set-up u) (λ w t g. set-up u) (λ w there h g q a. (λ x new expected. set-up u, λ x word. (set-up u, set-up u)))
+
+pub usable-packet : (u : TheUnit) (p : Arrived) (lent : Lent) → Digits 256 (p .packet) → usableUnit (takePacket u p lent .answer .unit) ≡ usableUnit u
+unfolding usableUnit
+usable-packet u p lent d =
+    unit-is u p lent (λ v. usableUnit v ≡ usableUnit u) (λ f v x. x) refl
+    (λ w t g. let k = alone u size w in
+    with-clock u (afterTime (u .clock) t) k (after-time (u .clock) t (taken-below (p .packet) (p .end) (u .logical) (u .number) t d g) (clock-works u k)) ∙ sym k)
+    (λ w there h g q a. let k = alone u size w in (
+      λ x new expected. with-owner u (swapped (u .owner) new expected (h .initiator) path (p .link)) k
+          (after-swap (u .owner) new expected (h .initiator) path (p .link) (packet-path (p .packet) (u .number)) (low k there) (owner-works u k)) ∙ sym k,
+      λ x word. (with-clock u (timeCodeWritten (u .clock) word) k (code-written (u .clock) word (clock-works u k)) ∙ sym k, refl),
     ))
   where
     size : ℕ
@@ -190,29 +189,43 @@ usable-packet u p lent d e =
     path : Path
     path = readPacket (p .packet) (u .number) .path
 
-    k : usableUnit u ≡ true
-    k = alone u size e
-
-    low : isLink u (p .link) ≡ true → p .link ≤ 31
-    low there =
+    low : usableUnit u ≡ true → isLink u (p .link) ≡ true → p .link ≤ 31
+    low k there =
         let a = leb-true (p .link) (u .links) (second-true (leb 1 (p .link)) (leb (p .link) (u .links)) there) in
         let b = leb-true (u .links) 31 (works u k .4) in
         omega (arith, a, b)
 
--- any Time-Code, any ticks
-pub usable-code : (u : TheUnit) (byte : ℕ) → usableUnit u ≡ true → usableUnit (takeTimeCode u byte .unit) ≡ true
+-- nor do a Time-Code and ticks
+small-usable : (u : TheUnit) (c : Clock) → (ClockWorks (u .clock) → ClockWorks c) → usableUnit (smallCall u (withClock u c) .unit) ≡ usableUnit u
+small-usable u c kept =
+    small-is u (withClock u c) (λ a. usableUnit (a .unit) ≡ usableUnit u) (λ e. refl) (λ e. with-clock u c e (kept (clock-works u e)) ∙ sym e)
+
+small-set-up : (u : TheUnit) (c : Clock) → SetUpAs u (smallCall u (withClock u c) .unit)
+small-set-up u c = small-is u (withClock u c) (λ a. SetUpAs u (a .unit)) (λ e. set-up u) (λ e. set-up u)
+
+pub usable-code : (u : TheUnit) (byte : ℕ) → usableUnit (takeTimeCode u byte .unit) ≡ usableUnit u
 unfolding takeTimeCode
-usable-code u byte e = rw e (with-clock u (afterCode (u .clock) (byte % 2 ^ 6)) e (after-code (u .clock) (byte % 2 ^ 6) (omega arith) (clock-works u e)))
+usable-code u byte = small-usable u (afterCode (u .clock) (byte % 2 ^ 6)) (after-code (u .clock) (byte % 2 ^ 6) (omega arith))
 
-pub usable-ticks : (u : TheUnit) (ticks : ℕ) → usableUnit u ≡ true → usableUnit (takeTicks u ticks .unit) ≡ true
-unfolding takeTicks
-usable-ticks u ticks e = rw e (with-clock u (afterTicks (u .clock) ticks) e (after-ticks (u .clock) ticks (clock-works u e)))
-
--- and with the same memory
-pub code-with-memory : (u : TheUnit) (n byte : ℕ) → usable u n ≡ true → usable (takeTimeCode u byte .unit) n ≡ true
+pub code-set-up : (u : TheUnit) (byte : ℕ) → SetUpAs u (takeTimeCode u byte .unit)
 unfolding takeTimeCode
-code-with-memory u n byte e = let k = alone u n e in with-memory u (takeTimeCode u byte .unit) n e (rw k) (usable-code u byte k)
+code-set-up u byte = small-set-up u (afterCode (u .clock) (byte % 2 ^ 6))
 
-pub ticks-with-memory : (u : TheUnit) (n ticks : ℕ) → usable u n ≡ true → usable (takeTicks u ticks .unit) n ≡ true
+pub usable-ticks : (u : TheUnit) (ticks : ℕ) → usableUnit (takeTicks u ticks .unit) ≡ usableUnit u
 unfolding takeTicks
-ticks-with-memory u n ticks e = let k = alone u n e in with-memory u (takeTicks u ticks .unit) n e (rw k) (usable-ticks u ticks k)
+usable-ticks u ticks = small-usable u (afterTicks (u .clock) ticks) (after-ticks (u .clock) ticks)
+
+pub ticks-set-up : (u : TheUnit) (ticks : ℕ) → SetUpAs u (takeTicks u ticks .unit)
+unfolding takeTicks
+ticks-set-up u ticks = small-set-up u (afterTicks (u .clock) ticks)
+
+-- so with a memory of any length the unit is as usable as it was
+pub packet-with-memory : (u : TheUnit) (n : ℕ) (p : Arrived) (lent : Lent) → Digits 256 (p .packet)
+    → usable (takePacket u p lent .answer .unit) n ≡ usable u n
+packet-with-memory u n p lent d = with-memory u (takePacket u p lent .answer .unit) n (packet-set-up u p lent .4) (usable-packet u p lent d)
+
+pub code-with-memory : (u : TheUnit) (n byte : ℕ) → usable (takeTimeCode u byte .unit) n ≡ usable u n
+code-with-memory u n byte = with-memory u (takeTimeCode u byte .unit) n (code-set-up u byte .4) (usable-code u byte)
+
+pub ticks-with-memory : (u : TheUnit) (n ticks : ℕ) → usable (takeTicks u ticks .unit) n ≡ usable u n
+ticks-with-memory u n ticks = with-memory u (takeTicks u ticks .unit) n (ticks-set-up u ticks .4) (usable-ticks u ticks)

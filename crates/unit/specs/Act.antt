@@ -79,6 +79,7 @@ repliedTo plan u h path link lent =
 
 -- ---- the unit
 
+-- With another part, and the rest as it was: that all of it is, is a law, in UnitLaws.
 abbrev pub withOwner : TheUnit → Owner → TheUnit
 withOwner u o = record {
   logical = u .logical;
