@@ -1,7 +1,7 @@
 -- No impostor gets by: for each a witness that computes.
 use mathlib.Core.Path.{_≡_, refl, sym, _∙_, ap}
 use mathlib.Core.Bool.{true, false, _&&_, and-false, or-false, false≢true}
-use mathlib.Core.Logic.{_⊎_, inl, inr}
+use mathlib.Core.Logic.{inl, inr}
 use mathlib.Core.List.{List, [], _∷_}
 use Prim.Native.Nat.{ℕ, _^_, _<_}
 use native.Mathlib.Omega.{arith}
@@ -37,7 +37,7 @@ use Rattle.demands.specs.Terminal.{IsCommand, pathIn, Call, packet, time
 use Rattle.demands.specs.ReplyDue.{replyDue}
 use Rattle.demands.specs.Refusals.{Leaves, RowByRow}
 use Rattle.demands.specs.Bounds.{OfBytes, Lends, StaysUsable}
-use Rattle.demands.specs.Meaning.{ByteByByte, StoresWith, OnlyStoresChange}
+use Rattle.demands.specs.Meaning.{ByteByByte, KeepsOrStores, OnlyStoresChange}
 use Rattle.demands.specs.Lists.{one, other, neither, fromOne, fromOther, Sent, State, heard, ends, refers, isStore, stores, Clear, Apart, Merge, Side, Merges}
 use Rattle.demands.specs.Counts.{countOf, countOfAll, Counting, counted, CountersAreHistory}
 use Rattle.demands.specs.Impostors.{refusesAll, doesNothing, repliesZero, obeysFirst, inventsCounters, repliesNothing, givesUp, clearsMemory, ImpostorsShutOut, ThreeAloneLetsBy, SomeReplyLetsBy, OneLengthLetsBy, RefusedAloneLetsBy}
@@ -200,7 +200,7 @@ clears-memory-shut-out only = go (only (unit 0) (arrived wrong-crc 1) (lent memo
     o : Outcome
     o = clearsMemory .packet (unit 0) (arrived wrong-crc 1) (lent memory buffer)
 
-    go : (o .memory ≡ memory) ⊎ ((h : Header) × IsCommand (unit 0) (arrived wrong-crc 1) h × (h .protocol ≡ 0x01) × StoresWith h (fateStatus (o .answer .fate))) → ⊥
+    go : KeepsOrStores (unit 0) (arrived wrong-crc 1) (lent memory buffer) o → ⊥
     go (inl same) = let e = ap (λ (m : List ℕ). getD m 0 0) same in omega (arith, e, computed .13)
     go (inr stores) = not-command (Refused HeaderCrc) (omega arith) (sym (computed .12) ∙ stores .1)
 

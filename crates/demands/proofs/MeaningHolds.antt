@@ -17,7 +17,7 @@ use Rattle.unit.specs.Given.{Arrived, Lent}
 use Rattle.unit.specs.Decide.{wantedCount, allAtHand, dataCount, dataStatusOf}
 use Rattle.unit.specs.Plan.{unansweredFate}
 use Rattle.unit.specs.Act.{stored}
-use Rattle.unit.specs.Calls.{Outcome, takePacket}
+use Rattle.unit.specs.Calls.{takePacket}
 use Rattle.unit.specs.declared.fate.Status.{Status}
 use Rattle.unit.specs.declared.fate.Fate.{Fate}
 use Rattle.unit.specs.declared.fate.Fate.the-variants.{NotObeyed, Obeyed, Replied}
@@ -33,7 +33,7 @@ use Rattle.packets.proofs.ReadingLaws.{one-command}
 use Rattle.demands.proofs.BoundsHold.{storing-bit}
 use Rattle.demands.specs.Terminal.{ours, IsCommand, pathIn}
 use Rattle.demands.specs.Refusals.{writtenTo}
-use Rattle.demands.specs.Meaning.{ByteByByte, PacketPromise, TimeCodePromise, TicksPromise, JudgePromise, AsJudged, StoresWith, OnlyStoresChange, RefusedChangesNone}
+use Rattle.demands.specs.Meaning.{ByteByByte, PacketPromise, TimeCodePromise, TicksPromise, JudgePromise, AsJudged, StoresWith, KeepsOrStores, OnlyStoresChange, RefusedChangesNone}
 
 pub byte-by-byte : ByteByByte ours
 byte-by-byte = (λ u p lent. refl, λ u byte. refl, λ u count. refl)
@@ -57,11 +57,6 @@ told-as-judged u p lent = as-judged u p lent
 
 -- a command refused by its data stores where it is a write without verify, and one that is obeyed where it is a write or an RMW
 module _ (u : TheUnit) (p : Arrived) (lent : Lent) (h : Header) (read : IsCommand u p h) where
-  abbrev Changes : Outcome → Type 0
-  Changes o =
-      (o .memory ≡ lent .memory)
-      ⊎ ((h : Header) × IsCommand u p h × (h .protocol ≡ 0x01) × StoresWith h (fateStatus (o .answer .fate)))
-
   abbrev path : Path
   path = pathIn u p
 
@@ -98,9 +93,9 @@ module _ (u : TheUnit) (p : Arrived) (lent : Lent) (h : Header) (read : IsComman
   told e fate s (inl same) = inl same
   told e fate s (inr with) = inr (h, read, e, rw s with)
 
-  command-changes : Changes (takeCommand u h path p lent)
+  command-changes : KeepsOrStores u p lent (takeCommand u h path p lent)
   command-changes =
-      command-is u h path p lent Changes (inl refl) (λ e. (λ w. inl refl, λ w. inl refl))
+      command-is u h path p lent (KeepsOrStores u p lent) (inl refl) (λ e. (λ w. inl refl, λ w. inl refl))
       (λ e a. (λ w. told e (Replied status) refl by-status, λ w. told e (unansweredFate status) (silent (isSuccess status) refl) by-status))
       (λ e a. (λ w. inl refl, λ w. inl refl))
     where
@@ -117,9 +112,7 @@ module _ (u : TheUnit) (p : Arrived) (lent : Lent) (h : Header) (read : IsComman
 
 pub only-stores-change : OnlyStoresChange ours
 only-stores-change u p lent =
-    packet-is u p lent
-    (λ o. (o .memory ≡ lent .memory) ⊎ ((h : Header) × IsCommand u p h × (h .protocol ≡ 0x01) × StoresWith h (fateStatus (o .answer .fate))))
-    (λ e. inl refl) (λ e f. inl refl) (λ e f why g. inl refl) (λ e f g. inl refl) (λ e f g t. inl refl) (λ e f h g. command-changes u p lent h g)
+    packet-is u p lent (KeepsOrStores u p lent) (λ e. inl refl) (λ e f. inl refl) (λ e f why g. inl refl) (λ e f g. inl refl) (λ e f g t. inl refl) (λ e f h g. command-changes u p lent h g)
 
 -- a verified write and an RMW store with status 0 alone
 guarded-zero : (h : Header) (told : Told) → ((isWrite (h .instruction) && isVerified (h .instruction)) || isRmw (kindIn h)) ≡ true → StoresWith h told
@@ -136,9 +129,7 @@ guarded-zero h told guarded (inr s) = absurd (go (kindIn h) (rw (s .1, write-bit
 pub refused-changes-none : RefusedChangesNone ours
 refused-changes-none u p lent h is guarded other = go (only-stores-change u p lent)
   where
-    go : (takePacket u p lent .memory ≡ lent .memory)
-        ⊎ ((h : Header) × IsCommand u p h × (h .protocol ≡ 0x01) × StoresWith h (fateStatus (takePacket u p lent .answer .fate)))
-        → takePacket u p lent .memory ≡ lent .memory
+    go : KeepsOrStores u p lent (takePacket u p lent) → takePacket u p lent .memory ≡ lent .memory
     go (inl same) = same
     go (inr stores) =
         let k = stores .0 in

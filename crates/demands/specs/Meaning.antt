@@ -16,7 +16,7 @@ use Rattle.unit.specs.Fate.{fateStatus}
 use Rattle.unit.specs.Owner.{isOwner}
 use Rattle.unit.specs.Fields.{deviceId, timeCodeCounter, divider, missing, rowOf, valuesOf}
 use Rattle.unit.specs.Given.{Arrived, Lent, sizesOf}
-use Rattle.unit.specs.Calls.{takePacket, takeTimeCode, takeTicks}
+use Rattle.unit.specs.Calls.{Outcome, takePacket, takeTimeCode, takeTicks}
 use Rattle.unit.specs.declared.fate.Status.{Status}
 use Rattle.unit.specs.declared.fate.Fate.the-variants.{Replied}
 use Rattle.unit.specs.declared.fate.Told.{Told}
@@ -86,13 +86,15 @@ StoresWith h told =
     × (isVerified (h .instruction) ≡ false)
     × ((status : ℕ) × (told ≡ Byte status) × (some (eqb status) (4 ∷ 5 ∷ 6 ∷ 7 ∷ []) ≡ true)))
 
--- Every packet leaves memory as it was, or is an RMAP command that stores with the status it has. So nothing changes where the header is cut or
--- its CRC is wrong (then the packet is no command), by a packet of another protocol, or by a command that has no status.
+-- Memory is as it was, or the packet is an RMAP command that stores with the status it has.
+abbrev pub KeepsOrStores : TheUnit → Arrived → Lent → Outcome → Type 0
+KeepsOrStores u p lent o =
+    (o .memory ≡ lent .memory) ⊎ ((h : Header) × IsCommand u p h × (h .protocol ≡ 0x01) × StoresWith h (fateStatus (o .answer .fate)))
+
+-- So it is with every packet. Nothing changes where the header is cut or its CRC is wrong (then the packet is no command), by a packet of another
+-- protocol, or by a command that has no status.
 abbrev pub OnlyStoresChange : Terminal → Type 0
-OnlyStoresChange t =
-    (u : TheUnit) (p : Arrived) (lent : Lent)
-    → (t .packet u p lent .memory ≡ lent .memory)
-    ⊎ ((h : Header) × IsCommand u p h × (h .protocol ≡ 0x01) × StoresWith h (fateStatus (t .packet u p lent .answer .fate)))
+OnlyStoresChange t = (u : TheUnit) (p : Arrived) (lent : Lent) → KeepsOrStores u p lent (t .packet u p lent)
 
 -- Of these the customer named two: a verified write or a read-modify-write that does not have status 0, for whatever reason, changes no memory.
 abbrev pub RefusedChangesNone : Terminal → Type 0
