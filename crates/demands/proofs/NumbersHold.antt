@@ -2,11 +2,10 @@
 use mathlib.Core.Path.{_≡_, refl, sym, _∙_}
 use mathlib.Core.Bool.{true, false, false≢true}
 use mathlib.Core.Logic.{inl, inr, _↔_}
-use Prim.Native.Nat.{ℕ, _%_, _^_, _<_, _≤_}
+use Prim.Native.Nat.{ℕ, _%_, _^_, _≤_}
 use native.Mathlib.Omega.{arith}
 use lib.Dec.{eqb}
 use lib.ListN.{length}
-use Rattle.packets.specs.Instruction.{wantsReply}
 use Rattle.packets.specs.Reading.{numberOf, readPacket}
 use Rattle.packets.specs.declared.header.Header.{Header}
 use Rattle.packets.specs.declared.reading.Reading.the-variants.{Refused, Time}
@@ -34,7 +33,7 @@ use Rattle.unit.proofs.CommandLaws.{takeCommand, packet-is, small-is, command-f
 use Rattle.unit.proofs.UsableLaws.{code-is}
 use Rattle.packets.proofs.ReadingLaws.{not-command, one-command}
 use Rattle.demands.specs.Terminal.{ours, IsCommand, pathIn}
-use Rattle.demands.specs.Refusals.{lengthDue, OneTwoThree, SmallRow, ByCode, ByTicks, SmallRows, numbers, statuses, Carries, Listed}
+use Rattle.demands.specs.Refusals.{LacksRoom, Exactly, OneTwoThree, SmallRow, ByCode, ByTicks, SmallRows, numbers, statuses, Carries, Listed}
 
 -- ---- 1 goes before 2, 2 before all else; and 3
 
@@ -42,14 +41,8 @@ module _ (u : TheUnit) (p : Arrived) (lent : Lent) where
   abbrev Works : Type 0
   Works = usable u (length (lent .memory)) ≡ true
 
-  abbrev Too : Type 0
-  Too = (h : Header) × IsCommand u p h × (wantsReply (h .instruction) ≡ true) × (length (lent .reply) < lengthDue u p h)
-
-  abbrev Exactly : ℕ → Type 0
-  Exactly n = ((n ≡ 1) ↔ (usable u (length (lent .memory)) ≡ false)) × ((n ≡ 2) ↔ (Works × (isLink u (p .link) ≡ false))) × ((n ≡ 3) ↔ (Works × (isLink u (p .link) ≡ true) × Too))
-
   -- past 1 and 2
-  later : Works → isLink u (p .link) ≡ true → (n : ℕ) → 3 ≤ n → (n ≡ 3) ↔ Too → Exactly n
+  later : Works → isLink u (p .link) ≡ true → (n : ℕ) → 3 ≤ n → (n ≡ 3) ↔ LacksRoom u p lent → Exactly u p lent n
   later e f n high three = (
     (λ k. absurd (omega (arith, k, high)), λ g. absurd (false≢true (sym g ∙ e))),
     (λ k. absurd (omega (arith, k, high)), λ g. absurd (false≢true (sym (g .1) ∙ f))),
@@ -57,11 +50,11 @@ module _ (u : TheUnit) (p : Arrived) (lent : Lent) where
   )
 
   -- no command
-  never : Works → isLink u (p .link) ≡ true → (n : ℕ) → 11 ≤ n → ((h : Header) → IsCommand u p h → ⊥) → Exactly n
+  never : Works → isLink u (p .link) ≡ true → (n : ℕ) → 11 ≤ n → ((h : Header) → IsCommand u p h → ⊥) → Exactly u p lent n
   never e f n high none = later e f n (omega (arith, high)) (λ k. absurd (omega (arith, k, high)), λ g. absurd (none (g .0) (g .1)))
 
   -- a command
-  command-three : (h : Header) → IsCommand u p h → (fateNumber (takeCommand u h (pathIn u p) p lent .answer .fate) ≡ 3) ↔ Too
+  command-three : (h : Header) → IsCommand u p h → (fateNumber (takeCommand u h (pathIn u p) p lent .answer .fate) ≡ 3) ↔ (LacksRoom u p lent)
   unfolding takeCommand
   command-three h is =
       let path = pathIn u p in
@@ -73,9 +66,9 @@ module _ (u : TheUnit) (p : Arrived) (lent : Lent) where
             plan .1 (rw same at (too .2), rw status (rw same at (too .3))),
       )
 
-  one-two-three-of : Exactly (fateNumber (takePacket u p lent .answer .fate))
+  one-two-three-of : Exactly u p lent (fateNumber (takePacket u p lent .answer .fate))
   one-two-three-of =
-      packet-is u p lent (λ o. Exactly (fateNumber (o .answer .fate)))
+      packet-is u p lent (λ o. Exactly u p lent (fateNumber (o .answer .fate)))
       (λ e. (
         (λ n. e, λ f. refl),
         (λ n. absurd (omega (arith, n)), λ f. absurd (false≢true (sym e ∙ f .0))),

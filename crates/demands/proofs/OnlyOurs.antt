@@ -2,7 +2,7 @@
 -- all that it leaves. So the rows together are a function, `due`; what meets them is its value; and ours meets them too.
 use mathlib.Core.Path.{_≡_, refl, sym, _∙_, ap}
 use mathlib.Core.Bool.{Bool, true, false, cond, false≢true, not-eq-not}
-use mathlib.Core.Logic.{inl, inr, _↔_}
+use mathlib.Core.Logic.{inl, inr}
 use mathlib.Core.List.{List}
 use Prim.Native.Nat.{ℕ, _%_, _^_, _<_}
 use native.Mathlib.Omega.{arith}
@@ -38,7 +38,7 @@ use Rattle.unit.proofs.FateLaws.{unread-number}
 use Rattle.packets.proofs.ReadingLaws.{one-command}
 use Rattle.demands.specs.Terminal.{IsCommand}
 use Rattle.demands.specs.ReplyDue.{replyDue}
-use Rattle.demands.specs.Refusals.{countedAs, obeyedBy, obeyedOn, refusedOn, statusDue, lengthDue, Obeys, Leaves, SmallRow, ByCode, ByTicks}
+use Rattle.demands.specs.Refusals.{countedAs, obeyedBy, obeyedOn, refusedOn, statusDue, lengthDue, Obeys, Leaves, Exactly, SmallRow, ByCode, ByTicks}
 use Rattle.demands.specs.Only.{OnlyOurs}
 use Rattle.demands.proofs.RefusalsHold.{row-by-row}
 use Rattle.demands.proofs.NumbersHold.{one-two-three}
@@ -142,23 +142,13 @@ module _ (u : TheUnit) (p : Arrived) (lent : Lent) where
 
   -- ---- an outcome that meets its row
 
-  -- where 1, 2 and 3 are due, as `OneTwoThree` has it
-  abbrev Too : Type 0
-  Too = (h : Header) × IsCommand u p h × (wantsReply (h .instruction) ≡ true) × (length (lent .reply) < lengthDue u p h)
-
-  abbrev Exactly : Fate → Type 0
-  Exactly f =
-      ((fateNumber f ≡ 1) ↔ (works ≡ false))
-      × ((fateNumber f ≡ 2) ↔ ((works ≡ true) × (linked ≡ false)))
-      × ((fateNumber f ≡ 3) ↔ ((works ≡ true) × (linked ≡ true) × Too))
-
   -- past 1, 2 and 3: the unit is usable, the link is one, and a reply that was asked for has room
-  past : (f : Fate) → 3 < fateNumber f → Exactly f → (works ≡ true) × (linked ≡ true)
+  past : (f : Fate) → 3 < fateNumber f → Exactly u p lent (fateNumber f) → (works ≡ true) × (linked ≡ true)
   past f high exactly =
       let e : works ≡ true = not-eq-not .0 (λ e. omega (arith, high, exactly .0 .1 e)) in
       (e, not-eq-not .0 (λ l. omega (arith, high, exactly .1 .1 (e, l))))
 
-  roomy : (f : Fate) → 3 < fateNumber f → Exactly f → (h : Header) → IsCommand u p h → wantsReply (h .instruction) ≡ true
+  roomy : (f : Fate) → 3 < fateNumber f → Exactly u p lent (fateNumber f) → (h : Header) → IsCommand u p h → wantsReply (h .instruction) ≡ true
       → ltb (length (lent .reply)) (lengthDue u p h) ≡ false
   roomy f high exactly h is asked =
       let x = past f high exactly in
@@ -192,11 +182,11 @@ module _ (u : TheUnit) (p : Arrived) (lent : Lent) where
             rw (one-command read (k .0) h (k .1) (row .2 .1)) (k .3, rw (rw (k .3) at e) (k .5, rw (k .3) at (k .6)))
 
     -- past them the reading decides
-    by-reading : (f : Fate) → 3 < fateNumber f → Exactly f → {r : Reading} → read ≡ r → o ≡ dueAs r → o ≡ due
+    by-reading : (f : Fate) → 3 < fateNumber f → Exactly u p lent (fateNumber f) → {r : Reading} → read ≡ r → o ≡ dueAs r → o ≡ due
     by-reading f high exactly is e = rw (past f high exactly .0, past f high exactly .1, is) e
 
     -- row by row
-    is-due : (f : Fate) → o .answer .fate ≡ f → Exactly f → Leaves f u p lent o → o ≡ due
+    is-due : (f : Fate) → o .answer .fate ≡ f → Exactly u p lent (fateNumber f) → Leaves f u p lent o → o ≡ due
     is-due TimeChanged e exactly row = absurd row
     is-due Unusable e exactly (unit, memory, reply) = rw (exactly .0 .0 refl) (outcome-is o e unit memory reply)
     is-due NoSuchLink e exactly (unit, memory, reply) =

@@ -182,17 +182,20 @@ RowByRow t =
     (u : TheUnit) (p : Arrived) (lent : Lent) → Digits 256 (p .packet)
     → Leaves (t .packet u p lent .answer .fate) u p lent (t .packet u p lent)
 
+-- The packet is a command whose reply, asked for, is longer than the reply buffer.
+abbrev pub LacksRoom : TheUnit → Arrived → Lent → Type 0
+LacksRoom u p lent = (h : Header) × IsCommand u p h × (wantsReply (h .instruction) ≡ true) × (length (lent .reply) < lengthDue u p h)
+
 -- 1 goes before 2, 2 before all else. 1 exactly if the unit is unusable with that memory; 2 exactly if it is usable, and the link is 0 or above
--- the link count; 3 exactly if neither is so, and the packet is a command whose reply, asked for, is longer than the reply buffer.
+-- the link count; 3 exactly if neither is so, and a reply lacks room.
+abbrev pub Exactly : TheUnit → Arrived → Lent → ℕ → Type 0
+Exactly u p lent number =
+    ((number ≡ 1) ↔ (usable u (length (lent .memory)) ≡ false))
+    × ((number ≡ 2) ↔ ((usable u (length (lent .memory)) ≡ true) × (isLink u (p .link) ≡ false)))
+    × ((number ≡ 3) ↔ ((usable u (length (lent .memory)) ≡ true) × (isLink u (p .link) ≡ true) × LacksRoom u p lent))
+
 abbrev pub OneTwoThree : Terminal → Type 0
-OneTwoThree t =
-    (u : TheUnit) (p : Arrived) (lent : Lent)
-    → ((fateNumber (t .packet u p lent .answer .fate) ≡ 1) ↔ (usable u (length (lent .memory)) ≡ false))
-    × ((fateNumber (t .packet u p lent .answer .fate) ≡ 2) ↔ ((usable u (length (lent .memory)) ≡ true) × (isLink u (p .link) ≡ false)))
-    × ((fateNumber (t .packet u p lent .answer .fate) ≡ 3)
-    ↔ ((usable u (length (lent .memory)) ≡ true)
-    × (isLink u (p .link) ≡ true)
-    × ((h : Header) × IsCommand u p h × (wantsReply (h .instruction) ≡ true) × (length (lent .reply) < lengthDue u p h))))
+OneTwoThree t = (u : TheUnit) (p : Arrived) (lent : Lent) → Exactly u p lent (fateNumber (t .packet u p lent .answer .fate))
 
 -- The small calls answer 1 and leave the unit, where it is unusable for another cause than memory; else 0, and only the clock changes, to what the
 -- definitions make of it. Neither counts, and neither has a reply. A Time-Code becomes the last one, whoever owns the unit: it is no packet. Ticks leave the
