@@ -197,21 +197,6 @@ pub crc-80 : crc (0x80 ∷ []) ≡ 0xE0
 unfolding crc message remainder mirrored modulo bits
 crc-80 = refl
 
--- ---- the shift register of the code
-
--- one turn: the bit of x^7 leaves on the right, and where it is 1, x^2 + x + 1 comes in, mirrored
-abbrev pub turned : ℕ → ℕ
-turned c = bitXor (c / 2) (c % 2 * 0b11100000)
-
-unfoldable pub turns : ℕ → ℕ → ℕ
-turns zero c = c
-turns (suc n) c = turns n (turned c)
-
--- eight turns are the CRC of a byte
-pub crc-turns : (c : ℕ) → c < 256 → turns 8 c ≡ crc (c ∷ [])
-unfolding turns crc message remainder mirrored modulo bits
-crc-turns c h = same (turns 8) (λ k. crc (k ∷ [])) 256 refl c h
-
 -- ---- a loop over the bytes: one byte more, and the end
 
 pub crc-from-next : (c : ℕ) (bytes : List ℕ) (i : ℕ) → i < length bytes
