@@ -8,12 +8,14 @@ use native.Mathlib.Decide.{ℕ-discrete}
 use borrow.Author.Tests.{eq-eqb, ne-eqb}
 use lib.Dec.{eqb}
 use lib.Bits.{bitXor, xor-shr, xor-mod, xor-block, xor-self, xor-zero-r, xor-lt}
-use lib.ListN.{length, getD, drop, replicate, drop-of-length-le}
-use lib.Seq.{drop-cons}
+use lib.ListN.{length, getD, take, drop, replicate, drop-of-length-le, length-drop, take-append-drop}
+use lib.Seq.{drop-cons, take-all}
+use native.Mathlib.Nat.{le-of-eq}
 use native.Mathlib.Numerals.{add-one}
 use Rattle.octets.specs.Crc.{withCrc, generator, modulo, remainder, bits, message, mirrored, crc, crcFrom}
+use Rattle.octets.specs.Places.{part}
 use Rattle.octets.proofs.Tabulate.{same}
-use Rattle.octets.proofs.Xor.{low, xor-assoc, xor-cross}
+use Rattle.octets.proofs.Xor.{low, xor-assoc, xor-cross, bit-times}
 
 -- ---- the remainder of a polynomial of degree at most 8, and one coefficient more
 
@@ -21,17 +23,10 @@ modulo-byte : (p : ℕ) → p < 512 → modulo p < 256
 unfolding modulo
 modulo-byte p h = omega (arith, same (λ k. modulo k / 256) (λ k. 0) 512 refl p h)
 
-times-xor : (u v : ℕ) → u < 2 → v < 2 → bitXor u v * generator ≡ bitXor (u * generator) (v * generator)
-times-xor zero v hu hv = refl
-times-xor (suc zero) zero hu hv = refl
-times-xor (suc zero) (suc zero) hu hv = refl
-times-xor (suc zero) (suc (suc v)) hu hv = absurd (omega arith)
-times-xor (suc (suc u)) v hu hv = absurd (omega arith)
-
 modulo-xor : (p q : ℕ) → p < 512 → q < 512 → modulo (bitXor p q) ≡ bitXor (modulo p) (modulo q)
 unfolding modulo
 modulo-xor p q hp hq =
-    rw (xor-shr p q 8, times-xor (p / 256) (q / 256) (omega arith) (omega arith))
+    rw (xor-shr p q 8, bit-times generator (p / 256) (q / 256) (omega arith) (omega arith))
     (xor-cross p q (p / 256 * generator) (q / 256 * generator))
 
 next-xor : (r s a b : ℕ) → r < 256 → s < 256
@@ -153,6 +148,14 @@ pub crc-from-append : (c : ℕ) (xs ys : List ℕ) → crcFrom c (xs ++ ys) ≡ 
 unfolding crcFrom
 crc-from-append c [] ys = refl
 crc-from-append c (x ∷ xs) ys = crc-from-append (crc (bitXor c x ∷ [])) xs ys
+
+-- over a row in two parts
+pub crc-from-parts : (c : ℕ) (bytes : List ℕ) (n : ℕ)
+    → crcFrom (crcFrom c (part 0 n bytes)) (part n (length bytes - n) bytes) ≡ crcFrom c bytes
+crc-from-parts c bytes n =
+    ap (crcFrom (crcFrom c (take n bytes))) (take-all (length bytes - n) (drop n bytes) (le-of-eq (length-drop n bytes)))
+    ∙ sym (crc-from-append c (take n bytes) (drop n bytes))
+    ∙ ap (crcFrom c) (take-append-drop n bytes)
 
 crc-zero : crc (0 ∷ []) ≡ 0
 unfolding crc message remainder mirrored modulo bits

@@ -1,11 +1,11 @@
 -- Exclusive or is associative, and two sums of two can be added crosswise. From bit to bit: numbers are equal where
 -- their halves and their last bits are.
-use mathlib.Core.Path.{_≡_, refl}
-use Prim.Native.Nat.{ℕ, zero, suc, _/_, _%_, _<_}
-use native.Mathlib.Nat.{mod-lt, zero-lt-suc}
+use mathlib.Core.Path.{_≡_, refl, sym, _∙_}
+use Prim.Native.Nat.{ℕ, zero, suc, _*_, _/_, _%_, _<_}
+use native.Mathlib.Nat.{mod-lt, zero-lt-suc, zero-mul}
 use native.Mathlib.Omega.{arith}
 use lib.Arith.{bin-ind}
-use lib.Bits.{bitXor, xor-comm, xor-shr, xor-mod}
+use lib.Bits.{bitXor, xor-comm, xor-self, xor-zero-r, xor-shr, xor-mod}
 
 halves : {a b : ℕ} → a / 2 ≡ b / 2 → a % 2 ≡ b % 2 → a ≡ b
 halves p q = omega arith
@@ -32,3 +32,11 @@ xor-assoc =
 
 pub xor-cross : (p q r s : ℕ) → bitXor (bitXor p q) (bitXor r s) ≡ bitXor (bitXor p r) (bitXor q s)
 xor-cross p q r s = rw (xor-assoc p q (bitXor r s), ← xor-assoc q r s, xor-comm q r, xor-assoc r q s, ← xor-assoc p r (bitXor q s))
+
+-- of bits, a number taken or not
+pub bit-times : (m u v : ℕ) → u < 2 → v < 2 → bitXor u v * m ≡ bitXor (u * m) (v * m)
+bit-times m zero v hu hv = rw (zero-mul m)
+bit-times m (suc zero) zero hu hv = rw (zero-mul m) (sym (xor-zero-r (1 * m)))
+bit-times m (suc zero) (suc zero) hu hv = zero-mul m ∙ sym (xor-self (1 * m))
+bit-times m (suc zero) (suc (suc v)) hu hv = absurd (omega arith)
+bit-times m (suc (suc u)) v hu hv = absurd (omega arith)

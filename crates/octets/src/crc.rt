@@ -1,6 +1,10 @@
-// The CRC of RMAP (document 01, 'CRC'; 001, clause 5.2): g(x) = x^8 + x^2 + x + 1, least significant bit first, start 0.
+// The CRC of RMAP (document 01, 'CRC'; 001, clause 5.2): g(x) = x^8 + x^2 + x + 1, least significant bit first, start 0. Three ways lead to it, each of
+// them for rows of the length at which it is ahead: a byte at a time, eight, and blocks of 127.
 ghost use mathlib.Core.Path.{_≡_};
 ghost use Rattle.octets.specs.Crc.{crc, crcFrom};
+use crate::blocks::by_blocks;
+use crate::table::by_table;
+use crate::words::by_words;
 
 // The CRC of the bytes. It is 0 for no bytes, and for bytes followed by their own CRC.
 pub fn crc_of(bytes: &[u8]) -> u8
@@ -13,48 +17,22 @@ pub fn crc_of(bytes: &[u8]) -> u8
 pub fn crc_from(running: u8, bytes: &[u8]) -> u8
     ensures { λ r. ⌜ r ≡ crcFrom running (now (bytes .entry)) ⌝ }
 {
-    // Once for all bytes: a constant is copied to the stack where it is borrowed.
-    let table = &TABLE;
-    let mut c = running;
-    let mut i = 0;
-    while i < bytes.len() {
-        c = table[(c ^ bytes[i]) as usize];
-        i += 1;
+    let size = bytes.len();
+    if size < 512 {
+        return by_size(running, bytes);
     }
-    c
+    // What no whole block is left of comes first.
+    let first = size % 127;
+    by_blocks(by_size(running, &bytes[0..first]), &bytes[first..size])
 }
 
-// The CRC of each byte, eight to a line as 001's Annex A.3 prints them.
-const TABLE: [u8; 256] = *b"\
-    \x00\x91\xe3\x72\x07\x96\xe4\x75\
-    \x0e\x9f\xed\x7c\x09\x98\xea\x7b\
-    \x1c\x8d\xff\x6e\x1b\x8a\xf8\x69\
-    \x12\x83\xf1\x60\x15\x84\xf6\x67\
-    \x38\xa9\xdb\x4a\x3f\xae\xdc\x4d\
-    \x36\xa7\xd5\x44\x31\xa0\xd2\x43\
-    \x24\xb5\xc7\x56\x23\xb2\xc0\x51\
-    \x2a\xbb\xc9\x58\x2d\xbc\xce\x5f\
-    \x70\xe1\x93\x02\x77\xe6\x94\x05\
-    \x7e\xef\x9d\x0c\x79\xe8\x9a\x0b\
-    \x6c\xfd\x8f\x1e\x6b\xfa\x88\x19\
-    \x62\xf3\x81\x10\x65\xf4\x86\x17\
-    \x48\xd9\xab\x3a\x4f\xde\xac\x3d\
-    \x46\xd7\xa5\x34\x41\xd0\xa2\x33\
-    \x54\xc5\xb7\x26\x53\xc2\xb0\x21\
-    \x5a\xcb\xb9\x28\x5d\xcc\xbe\x2f\
-    \xe0\x71\x03\x92\xe7\x76\x04\x95\
-    \xee\x7f\x0d\x9c\xe9\x78\x0a\x9b\
-    \xfc\x6d\x1f\x8e\xfb\x6a\x18\x89\
-    \xf2\x63\x11\x80\xf5\x64\x16\x87\
-    \xd8\x49\x3b\xaa\xdf\x4e\x3c\xad\
-    \xd6\x47\x35\xa4\xd1\x40\x32\xa3\
-    \xc4\x55\x27\xb6\xc3\x52\x20\xb1\
-    \xca\x5b\x29\xb8\xcd\x5c\x2e\xbf\
-    \x90\x01\x73\xe2\x97\x06\x74\xe5\
-    \x9e\x0f\x7d\xec\x99\x08\x7a\xeb\
-    \x8c\x1d\x6f\xfe\x8b\x1a\x68\xf9\
-    \x82\x13\x61\xf0\x85\x14\x66\xf7\
-    \xa8\x39\x4b\xda\xaf\x3e\x4c\xdd\
-    \xa6\x37\x45\xd4\xa1\x30\x42\xd3\
-    \xb4\x25\x57\xc6\xb3\x22\x50\xc1\
-    \xba\x2b\x59\xc8\xbd\x2c\x5e\xcf";
+// Where blocks are not worth it.
+fn by_size(running: u8, bytes: &[u8]) -> u8
+    ensures { λ r. ⌜ r ≡ crcFrom running (now (bytes .entry)) ⌝ }
+{
+    if bytes.len() < 8 {
+        by_table(running, bytes)
+    } else {
+        by_words(running, bytes)
+    }
+}

@@ -67,7 +67,7 @@ pub fn number7(a: u8, b: u8, c: u8, d: u8, e: u8, f: u8, g: u8) -> u64
     number8([0, a, b, c, d, e, f, g])
 }
 
-fn number8(b: [u8; 8]) -> u64
+pub(crate) fn number8(b: [u8; 8]) -> u64
     ensures { λ r. ⌜ r ≡ number b ⌝ }
 {
     let high = number4(b[0], b[1], b[2], b[3]) as u64;
