@@ -11,7 +11,7 @@ use lib.Seq.{drop-cons, drop-drop, take-suc-set, drop-set-lt, append-snoc, take-
 use Rattle.octets.specs.Crc.{crc, crcFrom}
 use Rattle.octets.specs.Numbers.{Digits}
 use Rattle.octets.specs.Places.{part}
-use Rattle.octets.specs.Words.{turn, turns, wordOf, added}
+use Rattle.octets.specs.Words.{turn, turns, wordOf, added, addedFrom}
 use Rattle.octets.proofs.CrcLaws.{crc-byte, crc-from-append, crc-from-byte}
 use Rattle.octets.proofs.NumberLaws.{digits-part}
 use Rattle.octets.proofs.PlaceLaws.{length-part, part-at}
@@ -144,16 +144,14 @@ pub block-end : (whole : ℕ) (bytes sum : List ℕ) (i : ℕ) → length bytes 
 block-end whole bytes sum i h s =
     ap (crcFrom 0) (sym (append-nil sum) ∙ ap (λ (l : List ℕ). sum ++ l) (sym (drop-of-length-le bytes {i = i} h))) ∙ s .goes
 
--- ---- a loop over the bytes of a block: the sum so far, and what is still to be added
+-- ---- a loop over the places of a block: one more, and the end
 
 pub added-next : (sum ys : List ℕ) (j : ℕ) → j < length sum → j < length ys
-    → take (j + 1) (set sum j (bitXor (getD sum j 0) (getD ys j 0))) ++ added (drop (j + 1) (set sum j (bitXor (getD sum j 0) (getD ys j 0)))) (drop (j + 1) ys)
-    ≡ take j sum ++ added (drop j sum) (drop j ys)
+    → addedFrom (j + 1) (set sum j (bitXor (getD sum j 0) (getD ys j 0))) ys ≡ addedFrom j sum ys
 added-next sum ys j h k =
     let b = bitXor (getD sum j 0) (getD ys j 0) in
     rw (add-one, take-suc-set sum j b h, drop-set-lt (suc j) sum j b (omega arith), drop-cons sum j 0 h, drop-cons ys j 0 k)
     (append-snoc (take j sum) b (added (drop (suc j) sum) (drop (suc j) ys)))
 
-pub added-end : (sum ys : List ℕ) (j : ℕ) → length sum ≤ j → sum ≡ take j sum ++ added (drop j sum) (drop j ys)
-added-end sum ys j h =
-    rw (take-all j sum h, drop-of-length-le sum {i = j} h) (sym (append-nil sum))
+pub added-end : (sum ys : List ℕ) (j : ℕ) → length sum ≤ j → addedFrom j sum ys ≡ sum
+added-end sum ys j h = rw (take-all j sum h, drop-of-length-le sum {i = j} h) (append-nil sum)

@@ -1,8 +1,9 @@
 -- What the quicker ways to the CRC go by: a shift register, eight bytes as one number, and rows added up. Only functions that nobody else can call
 -- promise anything in these words; `crc_from` promises `crcFrom`.
-use mathlib.Core.List.{List, [], _∷_}
+use mathlib.Core.List.{List, [], _∷_, _++_}
 use Prim.Native.Nat.{ℕ, zero, suc, _+_, _*_, _/_, _%_}
 use lib.Bits.{bitXor}
+use lib.ListN.{take, drop}
 
 -- A turn of the shift register (001, Annex A.2): the lowest bit leaves it, and where that is a 1, x^2 + x + 1 comes in, mirrored: x^8 modulo g(x).
 unfoldable pub turn : ℕ → ℕ
@@ -23,3 +24,7 @@ abbrev pub added : List ℕ → List ℕ → List ℕ
 added [] ys = []
 added (x ∷ xs) [] = []
 added (x ∷ xs) (y ∷ ys) = bitXor x y ∷ added xs ys
+
+-- The same from place `from` on; what stands before it is left as it is.
+abbrev pub addedFrom : ℕ → List ℕ → List ℕ → List ℕ
+addedFrom from xs ys = take from xs ++ added (drop from xs) (drop from ys)

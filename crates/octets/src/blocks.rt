@@ -1,17 +1,16 @@
-// The CRC of many bytes, by blocks of 127. Modulo g(x), x^127 is 1, so x^(8 127) too: a byte counts the same 127 bytes later, and the CRC of two blocks is that of
-// their sum. Blocks are added by exclusive or, which processors do many bytes at a time.
+// The CRC of many bytes, by blocks of 127. Modulo g(x), x^127 is 1, so that 127 bytes further on a byte counts the same: the CRC of two blocks, one behind the
+// other, is that of their sum. Blocks are added by exclusive or, which a processor does for many bytes at a time.
 ghost use mathlib.Core.Path.{_≡_};
 ghost use Prim.Native.Nat.{_+_, _%_, _≤_};
 ghost use lib.ListN.{length};
 ghost use Rattle.octets.specs.Crc.{crcFrom};
 ghost use Rattle.octets.specs.Places.{part};
-ghost use Rattle.octets.specs.Words.{added};
-use crate::words::by_words;
+ghost use Rattle.octets.specs.Words.{added, addedFrom};
 
-// Whole blocks, added to one whose first byte is the CRC so far.
-pub(crate) fn by_blocks(running: u8, bytes: &[u8]) -> u8
+// One block with the CRC of all: their sum, to whose first byte the CRC so far is added.
+pub(crate) fn sum_of_blocks(running: u8, bytes: &[u8]) -> [u8; 127]
     requires { ⌜ length (now bytes) % 127 ≡ 0 ⌝ }
-    ensures { λ r. ⌜ r ≡ crcFrom running (now (bytes .entry)) ⌝ }
+    ensures { λ r. ⌜ crcFrom 0 r ≡ crcFrom running (now (bytes .entry)) ⌝ }
 {
     let mut sum = [0; 127];
     sum[0] = running;
@@ -20,16 +19,26 @@ pub(crate) fn by_blocks(running: u8, bytes: &[u8]) -> u8
         add_block(bytes, i, &mut sum);
         i += 127;
     }
-    by_words(0, &sum)
+    sum
 }
 
-// Adds the block at `at` to the sum.
+// Adds the block at `at` to the sum. In two steps: 112 bytes are seven times sixteen, which compilers make seven instructions of, and the rest is short.
 fn add_block(s: &[u8], at: usize, sum: &mut [u8; 127])
     requires { ⌜ (at + 127 ≤ length (now s)) × (length (now sum) ≡ 127) ⌝ }
     ensures { λ _. ⌜ now (sum .exit) ≡ added (now (sum .entry)) (part at 127 (now (s .entry))) ⌝ }
 {
-    let mut j = 0;
-    while j < 127 {
+    add_places(s, at, 0, 112, sum);
+    add_places(s, at, 112, 127, sum);
+}
+
+// Adds the places of that block from `from` to `to`: what is left from there on makes the same of them.
+fn add_places(s: &[u8], at: usize, from: usize, to: usize, sum: &mut [u8; 127])
+    requires { ⌜ (at + 127 ≤ length (now s)) × (length (now sum) ≡ 127) × (from ≤ to) × (to ≤ 127) ⌝ }
+    ensures size { λ _. ⌜ length (now (sum .exit)) ≡ 127 ⌝ }
+    ensures leaves { λ _. ⌜ addedFrom to (now (sum .exit)) (part at 127 (now (s .entry))) ≡ addedFrom from (now (sum .entry)) (part at 127 (now (s .entry))) ⌝ }
+{
+    let mut j = from;
+    while j < to {
         sum[j] = sum[j] ^ s[at + j];
         j += 1;
     }

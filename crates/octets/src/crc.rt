@@ -1,8 +1,8 @@
-// The CRC of RMAP (document 01, 'CRC'; 001, clause 5.2): g(x) = x^8 + x^2 + x + 1, least significant bit first, start 0. Three ways lead to it, each of
-// them for rows of the length at which it is ahead: a byte at a time, eight, and blocks of 127.
+// The CRC of RMAP (document 01, 'CRC'; 001, clause 5.2): g(x) = x^8 + x^2 + x + 1, least significant bit first, start 0. Three ways lead to it, and each is
+// taken for rows of the lengths that it is for: a byte at a time, eight at a time, and blocks of 127.
 ghost use mathlib.Core.Path.{_≡_};
 ghost use Rattle.octets.specs.Crc.{crc, crcFrom};
-use crate::blocks::by_blocks;
+use crate::blocks::sum_of_blocks;
 use crate::table::by_table;
 use crate::words::by_words;
 
@@ -18,16 +18,19 @@ pub fn crc_from(running: u8, bytes: &[u8]) -> u8
     ensures { λ r. ⌜ r ≡ crcFrom running (now (bytes .entry)) ⌝ }
 {
     let size = bytes.len();
-    if size < 512 {
-        return by_size(running, bytes);
+    // Blocks are ahead from three on.
+    if size < 3 * 127 {
+        return without_blocks(running, bytes);
     }
-    // What no whole block is left of comes first.
+    // What is no whole block comes first.
     let first = size % 127;
-    by_blocks(by_size(running, &bytes[0..first]), &bytes[first..size])
+    let so_far = without_blocks(running, &bytes[0..first]);
+    let sum = sum_of_blocks(so_far, &bytes[first..size]);
+    without_blocks(0, &sum)
 }
 
-// Where blocks are not worth it.
-fn by_size(running: u8, bytes: &[u8]) -> u8
+// By words where there is one.
+fn without_blocks(running: u8, bytes: &[u8]) -> u8
     ensures { λ r. ⌜ r ≡ crcFrom running (now (bytes .entry)) ⌝ }
 {
     if bytes.len() < 8 {

@@ -1,4 +1,5 @@
-//! Three ways to the same CRC: the terminal's own, proved and compiled by its toolchain; the same loop over a table in Rust; and bit by bit in Rust.
+//! Three ways to the same CRC: the terminal's own, proved and compiled by its toolchain; and two in Rust, over a table of 256 values, and over eight of them
+//! eight bytes at a time.
 use crate::ROUNDS;
 use crate::count::instructions;
 use crate::spread::Spread;
@@ -14,10 +15,10 @@ unsafe extern "C" {
 
 pub type Crc = fn(&[u8]) -> u8;
 
-pub const WAYS: [(&str, Crc); 3] = [("terminal", terminal), ("table", model::crc), ("bit by bit", bit_by_bit)];
+pub const WAYS: [(&str, Crc); 3] = [("terminal", terminal), ("table", model::crc), ("eight tables", eight_tables)];
 
-/// Bytes in a row: a header, a block of data, the longest row of a packet at the bench.
-const SIZES: [usize; 3] = [16, 256, 4096];
+/// Bytes in a row: a header, small and larger blocks of data, a verified write at its longest, the longest row of a packet at the bench, and all of memory.
+const SIZES: [usize; 6] = [16, 64, 256, 1024, 4096, 65_536];
 /// Bytes that go through each way in a round.
 const ROUND: usize = 1 << 22;
 
@@ -26,9 +27,38 @@ fn terminal(bytes: &[u8]) -> u8 {
     unsafe { terminal_crc(bytes.as_ptr(), bytes.len()) }
 }
 
-/// Each byte in eight turns of a shift register: what needs no table, and what the terminal did before it had one.
-fn bit_by_bit(bytes: &[u8]) -> u8 {
-    bytes.iter().fold(0, |crc, byte| (0..8).fold(crc ^ byte, |c, _| (c >> 1) ^ ((c & 1) * 0b1110_0000)))
+/// A byte in eight turns of a shift register: the CRC of that byte.
+const fn turned(byte: u8) -> u8 {
+    let (mut crc, mut turn) = (byte, 0);
+    while turn < 8 {
+        crc = (crc >> 1) ^ ((crc & 1) * 0b1110_0000);
+        turn += 1;
+    }
+    crc
+}
+
+/// Table n has the CRC of each byte with n zeros behind it.
+const TABLES: [[u8; 256]; 8] = {
+    let mut tables = [[0; 256]; 8];
+    let (mut n, mut byte) = (0, 0);
+    while n < 8 {
+        while byte < 256 {
+            tables[n][byte] = turned(if n == 0 { byte as u8 } else { tables[n - 1][byte] });
+            byte += 1;
+        }
+        (n, byte) = (n + 1, 0);
+    }
+    tables
+};
+
+/// Slicing by eight: eight look-ups that do not wait for each other, and their sum; what is left at the end byte by byte.
+fn eight_tables(bytes: &[u8]) -> u8 {
+    let (blocks, rest) = bytes.as_chunks::<8>();
+    let crc = blocks.iter().fold(0, |crc, block| {
+        let first = TABLES[7][usize::from(crc ^ block[0])];
+        (1..8).fold(first, |sum, at| sum ^ TABLES[7 - at][usize::from(block[at])])
+    });
+    rest.iter().fold(crc, |crc, byte| TABLES[0][usize::from(crc ^ byte)])
 }
 
 /// The CRC of a row of this size, so many times.
@@ -73,6 +103,7 @@ mod tests {
 
     #[test]
     fn all_ways_lead_to_the_same() {
+        let bit_by_bit = |bytes: &[u8]| bytes.iter().fold(0, |crc, byte| turned(crc ^ byte));
         // Document 01's cases, by every way.
         for (name, crc) in WAYS {
             assert_eq!((crc(&[]), crc(&[0x01]), crc(&[0x80])), (0, 0x91, 0xE0), "{name}");
@@ -80,7 +111,10 @@ mod tests {
         let mut bytes = Vec::new();
         for n in 0..2000u32 {
             bytes.push((n.wrapping_mul(2_654_435_761) >> 13) as u8);
-            assert_eq!((terminal(&bytes), bit_by_bit(&bytes)), (model::crc(&bytes), model::crc(&bytes)), "{n}");
+            let expected = bit_by_bit(&bytes);
+            for (name, crc) in WAYS {
+                assert_eq!(crc(&bytes), expected, "{name}: {n}");
+            }
         }
     }
 }

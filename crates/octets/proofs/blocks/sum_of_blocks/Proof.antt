@@ -1,6 +1,5 @@
--- `octets::blocks::by_blocks` meets its contract: at each test the CRC of the sum, with the blocks still to come behind it, is that of the whole.
+-- `octets::blocks::sum_of_blocks` meets its contract: at each test the CRC of the sum, with the blocks still to come behind it, is that of the whole.
 use native.Mathlib.Omega.{arith}
-use mathlib.Core.Path.{_∙_}
 use Prim.Native.Nat.{_-_}
 use borrow.Author.Needs.{needs}
 use denote.Ref.{now}
@@ -8,8 +7,8 @@ use lib.ListN.{length}
 use Rattle.octets.specs.Crc.{crcFrom}
 use Rattle.octets.proofs.BlockLaws.{Summed, block-first, block-next, block-end}
 use Rattle.octets.proofs.NumberLaws.{digits-of}
-use Rattle.octets.proofs.blocks.by_blocks.Statement.{statement}
-use Rattle.octets.proofs.blocks.by_blocks.Tie as tie
+use Rattle.octets.proofs.blocks.sum_of_blocks.Statement.{statement}
+use Rattle.octets.proofs.blocks.sum_of_blocks.Tie as tie
 
 abbrev Inv-loop : tie.InvT-loop
 Inv-loop running bytes sum₀ i₀ sum i = Summed (crcFrom running bytes) bytes sum i
@@ -41,20 +40,13 @@ loop-again c =
     let t = digits-of 256 bytes (λ k. omega (arith, test .before .shared-slice-known .given k)) in
     rw (c .add-block .ensures) (block-next _ bytes (test .loop .sum) (test .loop .i) t (search needs) (test .loop .inv))
 
-slice-aggregate-by-words : tie.Need-slice-aggregate-by-words Inv-loop μ-loop
-slice-aggregate-by-words c = search needs
-
-by-words-requires : tie.Need-by-words-requires Inv-loop μ-loop
-by-words-requires c κs = omega arith
-
 returns : tie.Need-returns Inv-loop μ-loop
 returns c =
-    let test = c .before .before .before in
-    c .by-words .ensures
-    ∙ block-end _ (now (test .before .before .args .bytes)) (test .loop .sum) (test .loop .i) (search needs) (test .loop .inv)
+    let test = c .before in
+    block-end _ (now (test .before .before .args .bytes)) (test .loop .sum) (test .loop .i) (search needs) (test .loop .inv)
 
-pub by-blocks-spec : {M : Type 1} → statement M
-by-blocks-spec =
+pub sum-of-blocks-spec : {M : Type 1} → statement M
+sum-of-blocks-spec =
     tie.close
     (tie.spec
     Inv-loop
@@ -65,6 +57,4 @@ by-blocks-spec =
     add-i
     loop-less
     loop-again
-    slice-aggregate-by-words
-    by-words-requires
     returns)
