@@ -197,8 +197,7 @@ fn long_head(h: Header, status: u8, count: u32) -> [u8; 12]
 {
     let s = start_of(h, status);
     let n = octets::bytes3(count);
-    let k = octets::crc_from(octets::crc_of(&s), &[0, n[0], n[1], n[2]]);
-    [
+    let mut head = [
         s[0],
         s[1],
         s[2],
@@ -210,6 +209,8 @@ fn long_head(h: Header, status: u8, count: u32) -> [u8; 12]
         n[0],
         n[1],
         n[2],
-        k,
-    ]
+        0,
+    ];
+    head[11] = octets::crc_of(&head[0..11]);
+    head
 }

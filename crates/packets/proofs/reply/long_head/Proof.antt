@@ -1,8 +1,4 @@
--- `packets::reply::long_head` meets its contract: the CRC of the start goes on through the length.
-use mathlib.Core.List.{_∷_}
-use Rattle.octets.specs.Numbers.{bytesOf}
-use Rattle.octets.proofs.CrcLaws.{crc-append}
-use Rattle.packets.specs.Reply.{replyStart}
+-- `packets::reply::long_head` meets its contract: the start, the length and the CRC of both stand in one row.
 use borrow.Author.Needs.{needs}
 use Rattle.packets.proofs.reply.long_head.Statement.{statement}
 use Rattle.packets.proofs.reply.long_head.Tie as tie
@@ -13,69 +9,55 @@ start-of-requires c κs = search needs
 bytes3-requires : tie.Need-bytes3-requires
 bytes3-requires c κs = search needs
 
-slice-aggregate-crc-of : tie.Need-slice-aggregate-crc-of
-slice-aggregate-crc-of c = search needs
+array-read-head : tie.Need-array-read-head
+array-read-head c = search needs
+
+array-read-t14 : tie.Need-array-read-t14
+array-read-t14 c = search needs
+
+array-read-t17 : tie.Need-array-read-t17
+array-read-t17 c = search needs
+
+array-read-t20 : tie.Need-array-read-t20
+array-read-t20 c = search needs
+
+array-read-t23 : tie.Need-array-read-t23
+array-read-t23 c = search needs
+
+array-read-t26 : tie.Need-array-read-t26
+array-read-t26 c = search needs
+
+array-read-t29 : tie.Need-array-read-t29
+array-read-t29 c = search needs
+
+array-read-t32 : tie.Need-array-read-t32
+array-read-t32 c = search needs
+
+array-read-t35 : tie.Need-array-read-t35
+array-read-t35 c = search needs
+
+array-read-t38 : tie.Need-array-read-t38
+array-read-t38 c = search needs
+
+sub-crc-of : tie.Need-sub-crc-of
+sub-crc-of c = search needs
+
+part-crc-of-start : tie.Need-part-crc-of-start
+part-crc-of-start c = search needs
+
+part-crc-of-end : tie.Need-part-crc-of-end
+part-crc-of-end c = search needs
 
 crc-of-requires : tie.Need-crc-of-requires
 crc-of-requires c κs = search needs
 
-array-read-t15 : tie.Need-array-read-t15
-array-read-t15 c = search needs
-
-array-read-t18 : tie.Need-array-read-t18
-array-read-t18 c = search needs
-
-array-read-t21 : tie.Need-array-read-t21
-array-read-t21 c = search needs
-
-slice-aggregate-crc-from : tie.Need-slice-aggregate-crc-from
-slice-aggregate-crc-from c = search needs
-
-crc-from-requires : tie.Need-crc-from-requires
-crc-from-requires c κs = search needs
-
-array-read-t9 : tie.Need-array-read-t9
-array-read-t9 c = search needs
-
-array-read-t21-2 : tie.Need-array-read-t21-2
-array-read-t21-2 c = search needs
-
-array-read-t18-2 : tie.Need-array-read-t18-2
-array-read-t18-2 c = search needs
-
-array-read-t15-2 : tie.Need-array-read-t15-2
-array-read-t15-2 c = search needs
-
-array-read-t34 : tie.Need-array-read-t34
-array-read-t34 c = search needs
-
-array-read-t37 : tie.Need-array-read-t37
-array-read-t37 c = search needs
-
-array-read-t40 : tie.Need-array-read-t40
-array-read-t40 c = search needs
-
-array-read-t43 : tie.Need-array-read-t43
-array-read-t43 c = search needs
-
-array-read-t46 : tie.Need-array-read-t46
-array-read-t46 c = search needs
-
-array-read-t49 : tie.Need-array-read-t49
-array-read-t49 c = search needs
+array-write-head : tie.Need-array-write-head
+array-write-head c = search needs
 
 returns : tie.Need-returns
 returns c =
-    let sum = c .before .before in
-    let at = sum .before .before in
-    let a = at .before .before .args in
-    rw (
-      c .crc-from .ensures,
-      sum .crc-of .ensures,
-      at .bytes3 .ensures,
-      at .before .start-of .ensures,
-      crc-append (replyStart (a .h) (a .status)) (0 ∷ bytesOf 3 (a .count)),
-    )
+    let made = c .before .before .before in
+    rw (c .crc-of .ensures, made .bytes3 .ensures, made .before .start-of .ensures)
 
 pub long-head-spec : {M : Type 1} → statement M
 long-head-spec =
@@ -83,21 +65,19 @@ long-head-spec =
     (tie.spec
     start-of-requires
     bytes3-requires
-    slice-aggregate-crc-of
+    array-read-head
+    array-read-t14
+    array-read-t17
+    array-read-t20
+    array-read-t23
+    array-read-t26
+    array-read-t29
+    array-read-t32
+    array-read-t35
+    array-read-t38
+    sub-crc-of
+    part-crc-of-start
+    part-crc-of-end
     crc-of-requires
-    array-read-t15
-    array-read-t18
-    array-read-t21
-    slice-aggregate-crc-from
-    crc-from-requires
-    array-read-t9
-    array-read-t21-2
-    array-read-t18-2
-    array-read-t15-2
-    array-read-t34
-    array-read-t37
-    array-read-t40
-    array-read-t43
-    array-read-t46
-    array-read-t49
+    array-write-head
     returns)
