@@ -1,4 +1,4 @@
-// Copies, fills and numbers at the edges of a buffer of eight bytes.
+// Copies, fills and numbers at the edges of a buffer of eight bytes; and rows at the lengths where the CRC takes another way.
 use crate::show;
 use octets::Number;
 
@@ -55,6 +55,27 @@ pub(crate) fn read(name: &[u8], at: usize, width: usize) {
             show::text(b": refused\n");
         }
     }
+}
+
+// The CRC that goes on over the first `count` bytes of a row.
+pub(crate) fn row(name: &[u8], running: u8, count: usize) {
+    let s = counted();
+    if count <= 4096 {
+        bytes(name, &[octets::crc_from(running, &s[0..count])]);
+    } else {
+        show::text(b"no such row\n");
+    }
+}
+
+// Byte n is n modulo 251, a prime: no two blocks of 127 are alike, nor any two words behind each other.
+fn counted() -> [u8; 4096] {
+    let mut s = [0; 4096];
+    let mut n = 0;
+    while n < 4096 {
+        s[n] = (n % 251) as u8;
+        n += 1;
+    }
+    s
 }
 
 // A number, in sixteen hexadecimal digits.

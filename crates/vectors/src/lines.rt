@@ -3,6 +3,7 @@
 //
 //   # text                                     a heading
 //   c name|bytes                               CRC of bytes, the last of them their CRC
+//   l name|running|count                       CRC that goes on over the first bytes, at most 4,096, of 0 1 2 .. 250 0 1 2 ..
 //   i name|byte                                what an instruction byte says
 //   p name|packet                              a packet is read
 //   a name|command                             the path that a command is read to
@@ -62,6 +63,7 @@ fn run(line: &[u8]) {
     match verb {
         b'#' => heading(fields),
         b'c' => crc(fields),
+        b'l' => row(fields),
         b'i' => instructions::say(script::field(fields), script::byte(script::rest(fields))),
         b'p' => packet(fields),
         b'a' => address(fields),
@@ -88,6 +90,16 @@ fn crc(fields: &[u8]) {
     let mut bytes = [0u8; 64];
     let n = script::bytes(script::rest(fields), &mut bytes);
     annex::pattern(script::field(fields), &bytes[0..n]);
+}
+
+fn row(fields: &[u8]) {
+    let running = script::rest(fields);
+    let count = script::rest(running);
+    edges::row(
+        script::field(fields),
+        script::byte(running),
+        script::number(count) as usize,
+    );
 }
 
 fn packet(fields: &[u8]) {

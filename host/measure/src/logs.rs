@@ -12,19 +12,38 @@ use stories::Record;
 const SEED: u64 = 1;
 
 /// Each log with its name.
-fn logs() -> [(&'static str, Vec<Record>); 3] {
+fn logs() -> [(&'static str, Vec<Record>); 4] {
     [
         ("mixed records", stories::right_log(SEED, 100_000)),
         ("reads of 4 bytes", vec![read(4); 100_000]),
         ("reads of 4,096 bytes", vec![read(4096); 4_000]),
+        ("verified writes of 1,024 bytes", vec![verified_write(1024); 10_000]),
     ]
 }
 
 /// An RMAP read from address 0 that the bench's unit obeys.
 fn read(length: u32) -> Record {
+    packet(header(0x4C, length))
+}
+
+/// An RMAP write with verify and reply to address 0 that the bench's unit obeys.
+fn verified_write(length: u32) -> Record {
+    let data: Vec<u8> = (0..length).map(|n| (n % 251) as u8).collect();
+    packet([header(0x7C, length), with_crc(data)].concat())
+}
+
+/// The header of a command that goes upward from address 0, with its CRC.
+fn header(instruction: u8, length: u32) -> Vec<u8> {
     let [_, high, middle, low] = length.to_be_bytes();
-    let mut bytes = vec![0x43, 0x01, 0x4C, 0x2A, 0x67, 0, 1, 0, 0, 0, 0, 0, high, middle, low];
+    with_crc(vec![0x43, 0x01, instruction, 0x2A, 0x67, 0, 1, 0, 0, 0, 0, 0, high, middle, low])
+}
+
+fn with_crc(mut bytes: Vec<u8>) -> Vec<u8> {
     bytes.push(model::crc(&bytes));
+    bytes
+}
+
+fn packet(bytes: Vec<u8>) -> Record {
     Record::Packet { link: 1, eep: false, bytes }
 }
 
