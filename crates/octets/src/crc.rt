@@ -18,24 +18,16 @@ pub fn crc_from(running: u8, bytes: &[u8]) -> u8
     ensures { λ r. ⌜ r ≡ crcFrom running (now (bytes .entry)) ⌝ }
 {
     let size = bytes.len();
+    if size < 8 {
+        return by_table(running, bytes);
+    }
     // Blocks are ahead from three on.
     if size < 3 * 127 {
-        return without_blocks(running, bytes);
+        return by_words(running, bytes);
     }
-    // What is no whole block comes first.
-    let first = size % 127;
-    let so_far = without_blocks(running, &bytes[0..first]);
+    // What is no whole block comes first, and is at least a word.
+    let first = (size - 8) % 127 + 8;
+    let so_far = by_words(running, &bytes[0..first]);
     let sum = sum_of_blocks(so_far, &bytes[first..size]);
-    without_blocks(0, &sum)
-}
-
-// By words where there is one.
-fn without_blocks(running: u8, bytes: &[u8]) -> u8
-    ensures { λ r. ⌜ r ≡ crcFrom running (now (bytes .entry)) ⌝ }
-{
-    if bytes.len() < 8 {
-        by_table(running, bytes)
-    } else {
-        by_words(running, bytes)
-    }
+    by_words(0, &sum)
 }

@@ -38,7 +38,7 @@ const fn turned(byte: u8) -> u8 {
 }
 
 /// Table n has the CRC of each byte with n zeros behind it.
-const TABLES: [[u8; 256]; 8] = {
+static TABLES: [[u8; 256]; 8] = {
     let mut tables = [[0; 256]; 8];
     let (mut n, mut byte) = (0, 0);
     while n < 8 {
@@ -68,7 +68,7 @@ pub fn repeated(crc: Crc, size: usize, times: usize) -> u8 {
 }
 
 pub fn table() -> Result<(), Box<dyn Error>> {
-    println!("| CRC of | way | ns a byte | terminal's time to this one's | instructions a byte |");
+    println!("| CRC of | way | ns | times terminal's | instructions |");
     println!("|---|---|---|---|---|");
     for size in SIZES {
         let mut times = WAYS.map(|_| Vec::new());
@@ -80,9 +80,9 @@ pub fn table() -> Result<(), Box<dyn Error>> {
             }
         }
         for (at, (name, _)) in WAYS.iter().enumerate() {
-            let each = Spread::of(times[at].iter().map(|time| time * 1e9 / ROUND as f64));
-            let ratio = Spread::of(times[0].iter().zip(&times[at]).map(|(ours, its)| ours / its));
-            println!("| {size} bytes | {name} | {each} | {ratio} | {:.2} |", instructions_a_byte(at, size)?);
+            let each = Spread::of(times[at].iter().map(|time| time * 1e9 / (ROUND / size) as f64));
+            let ratio = Spread::of(times[at].iter().zip(&times[0]).map(|(its, ours)| its / ours));
+            println!("| {size} bytes | {name} | {each} | {ratio} | {:.0} |", instructions_a_row(at, size)?);
         }
     }
     println!();
@@ -90,11 +90,11 @@ pub fn table() -> Result<(), Box<dyn Error>> {
 }
 
 /// What a thousand more rows cost, so that starting and ending do not count.
-fn instructions_a_byte(way: usize, size: usize) -> Result<f64, Box<dyn Error>> {
+fn instructions_a_row(way: usize, size: usize) -> Result<f64, Box<dyn Error>> {
     let this = env::current_exe()?;
     let count =
         |times: usize| instructions(&this, &["crc".into(), way.to_string(), size.to_string(), times.to_string()], None);
-    Ok((count(1001)? - count(1)?) as f64 / (1000 * size) as f64)
+    Ok((count(1001)? - count(1)?) as f64 / 1000.0)
 }
 
 #[cfg(test)]
