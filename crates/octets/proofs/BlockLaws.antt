@@ -1,12 +1,11 @@
--- Laws of blocks of 127 bytes: modulo g(x), x^127 is 1, so that a block counts what it would count in front of another, and two of them what their sum does.
+-- Laws of blocks of 127 bytes: modulo g(x), x^127 is 1, so that a block in front of another counts as if it lay on it, and two of them count what their sum does.
 use mathlib.Core.Path.{_≡_, refl, sym, ap, ap₂, _∙_}
 use mathlib.Core.List.{List, [], _∷_, _++_, append-assoc, append-nil}
-use Prim.Native.Nat.{ℕ, zero, suc, _+_, _-_, _*_, _%_, _^_, _<_, _≤_}
+use Prim.Native.Nat.{ℕ, zero, suc, _+_, _-_, _*_, _%_, _<_, _≤_}
 use native.Mathlib.Omega.{arith}
-use native.Mathlib.Nat.{zero-add}
 use native.Mathlib.Numerals.{add-one}
 use lib.Bits.{bitXor, xor-lt, xor-zero-r}
-use lib.ListN.{length, getD, take, drop, set, replicate, length-set, length-drop, length-replicate, take-append-drop, drop-of-length-le}
+use lib.ListN.{length, getD, take, drop, set, replicate, take-append-drop, drop-of-length-le}
 use lib.Seq.{drop-cons, drop-drop, take-suc-set, drop-set-lt, append-snoc, take-all}
 use Rattle.octets.specs.Crc.{crc, crcFrom}
 use Rattle.octets.specs.Numbers.{Digits}
@@ -14,7 +13,7 @@ use Rattle.octets.specs.Places.{part}
 use Rattle.octets.specs.Words.{turn, turns, wordOf, added, addedFrom}
 use Rattle.octets.proofs.CrcLaws.{crc-byte, crc-from-append, crc-from-byte}
 use Rattle.octets.proofs.NumberLaws.{digits-part}
-use Rattle.octets.proofs.PlaceLaws.{length-part, part-at}
+use Rattle.octets.proofs.PlaceLaws.{length-part}
 use Rattle.octets.proofs.Linear.{itself, basis}
 use Rattle.octets.proofs.WordLaws.{turns-linear, turns-add, crc-turns, crc-word}
 use Rattle.octets.proofs.Xor.{xor-cross}
@@ -34,7 +33,7 @@ cycles (suc n) c h =
 
 -- ---- rows added
 
-pub length-added : (xs ys : List ℕ) → length xs ≡ length ys → length (added xs ys) ≡ length xs
+length-added : (xs ys : List ℕ) → length xs ≡ length ys → length (added xs ys) ≡ length xs
 length-added [] ys e = refl
 length-added (x ∷ xs) [] e = absurd (omega arith)
 length-added (x ∷ xs) (y ∷ ys) e = ap suc (length-added xs ys (omega arith))
@@ -63,7 +62,7 @@ crc-xor a b ha hb =
     ∙ ap₂ bitXor (crc-turns a ha) (crc-turns b hb)
 
 -- the CRC of a sum is the sum of the CRCs
-pub crc-added : (c d : ℕ) (xs ys : List ℕ) → c < 256 → d < 256 → Digits 256 xs → Digits 256 ys → length xs ≡ length ys
+crc-added : (c d : ℕ) (xs ys : List ℕ) → c < 256 → d < 256 → Digits 256 xs → Digits 256 ys → length xs ≡ length ys
     → crcFrom (bitXor c d) (added xs ys) ≡ bitXor (crcFrom c xs) (crcFrom d ys)
 unfolding crcFrom
 crc-added c d [] [] hc hd s t e = refl
@@ -116,8 +115,8 @@ block-first c bytes h e = record {
   digits = (h, digits-zeros 126);
   goes =
       crc-from-append 0 (c ∷ replicate 126 0) bytes
-      ∙ ap (λ (k : ℕ). crcFrom k bytes) (crc-word 0 (c ∷ replicate 126 0) (omega arith) (h, digits-zeros 126)
-      ∙ ap (λ (w : ℕ). turns 1016 (w * 256 + c)) (word-zeros 126) ∙ ap (turns 1016) (zero-add c) ∙ cycles 8 c h);
+      ∙ ap (λ (k : ℕ). crcFrom k bytes)
+      (ap (λ (k : ℕ). crcFrom (crc (k ∷ [])) (replicate 126 0)) (sym (xor-zero-r c)) ∙ block-on c h);
 }
 
 pub block-next : (whole : ℕ) (bytes sum : List ℕ) (i : ℕ) → Digits 256 bytes → i < length bytes

@@ -1,18 +1,18 @@
--- Laws of the shift register on words of any width: it turns what is added apart, and as many turns as a word has bits are the CRC of its bytes.
+-- Laws of the shift register on words of any width: exclusive or goes through it, and as many turns as a word has bits are the CRC of its bytes.
 use mathlib.Core.Path.{_≡_, refl, sym, ap, ap₂, _∙_}
-use mathlib.Core.List.{List, [], _∷_, _++_}
+use mathlib.Core.List.{List, [], _∷_}
 use Prim.Native.Nat.{ℕ, zero, suc, _+_, _-_, _*_, _/_, _%_, _^_, _<_, _≤_}
 use native.Mathlib.Omega.{arith}
 use native.Mathlib.Nat.{zero-mul, zero-add, add-zero, suc-add, mul-assoc, mul-comm, pow-succ', mod-lt, mod-one, zero-mod, mul-mod-left, mod-eq-of-lt, lt-of-lt-of-le}
 use lib.Arith.{digits-div, digits-mod}
-use lib.Bits.{bitXor, xor-shr, xor-mod, xor-block, xor-comm, xor-self, xor-zero-r, xor-lt, xor-shifted}
+use lib.Bits.{bitXor, xor-mod, xor-block, xor-comm, xor-zero-r, xor-lt, xor-shifted}
 use lib.Pow.{pow-pos, pow-mono, shl-shr, mod-pow-add}
 use lib.ListN.{length, getD, take, drop, take-append-drop}
 use lib.Seq.{take-take, drop-drop}
 use Rattle.octets.specs.Crc.{crc, crcFrom, message, remainder, mirrored, modulo, bits}
 use Rattle.octets.specs.Numbers.{Digits, number}
 use Rattle.octets.specs.Places.{part}
-use Rattle.octets.specs.Words.{turn, turns, wordOf, added}
+use Rattle.octets.specs.Words.{turn, turns, crcOfTwo, wordOf}
 use Rattle.octets.proofs.CrcLaws.{crc-byte, crc-from-append}
 use Rattle.octets.proofs.NumberLaws.{digits-part}
 use Rattle.octets.proofs.PlaceLaws.{length-part, part-bytes}
@@ -46,7 +46,7 @@ turn-even m =
     let none : m * 2 % 2 ≡ 0 = omega arith in
     rw (half, none) (xor-zero-r m)
 
-pub turns-up : (n m : ℕ) → turns n (m * 2 ^ n) ≡ m
+turns-up : (n m : ℕ) → turns n (m * 2 ^ n) ≡ m
 unfolding turns
 turns-up zero m = omega arith
 turns-up (suc n) m =
@@ -81,18 +81,17 @@ crc-word c (x ∷ xs) h t =
     rw (bits, turns-add 8 (length xs * 8) (bitXor c (wordOf xs * 256 + x)), byte-more c (wordOf xs) x h (t .0))
     (crc-word (crc (bitXor c x ∷ [])) xs (crc-byte (bitXor c x ∷ [])) (t .1))
 
--- ---- two words as one polynomial of 128 coefficients, and one word more: x^64 takes the lower one's place to the upper one's, x^128 = x
+-- ---- two words as one polynomial of 128 coefficients, and a word more: the lower takes the upper's place, and the upper, times x^128 = x, the lower's
 
--- the CRC of two words: what the loop keeps
-abbrev pub crcOf2 : ℕ → ℕ → ℕ
-crcOf2 upper lower = turns 64 (bitXor (turns 64 upper) lower)
+-- k places up; what leaves the word is lost
+abbrev shl : ℕ → ℕ → ℕ
+shl w k = w * 2 ^ k % 2 ^ 64
 
--- times x^k, mirrored, as far as the word goes
-up : (k : ℕ) → Linear (λ x. x * 2 ^ k % 2 ^ 64)
+up : (k : ℕ) → Linear (λ x. shl x k)
 up k = after (lowest 64) (shifted-up k)
 
-pub times-128 : (u : ℕ) → u < 2 ^ 64
-    → bitXor (turns 64 (turns 64 (u * 2 ^ 63 % 2 ^ 64))) (turns 64 (u / 2)) ≡ turns 64 (turns 64 (turns 64 u))
+times-128 : (u : ℕ) → u < 2 ^ 64
+    → bitXor (turns 64 (turns 64 (shl u 63))) (turns 64 (u / 2)) ≡ turns 64 (turns 64 (turns 64 u))
 unfolding turns turn
 times-128 = basis
     (sum (after (turns-linear 64) (after (turns-linear 64) (up 63))) (after (turns-linear 64) (shifted-down 1)))
@@ -100,35 +99,40 @@ times-128 = basis
     64 refl
 
 two-next : (upper lower w : ℕ) → upper < 2 ^ 64
-    → crcOf2 (bitXor lower (upper * 2 ^ 63 % 2 ^ 64)) (bitXor w (upper / 2)) ≡ turns 64 (bitXor (crcOf2 upper lower) w)
+    → crcOfTwo (bitXor lower (shl upper 63)) (bitXor w (upper / 2)) ≡ turns 64 (bitXor (crcOfTwo upper lower) w)
 two-next upper lower w h =
     let t : ℕ → ℕ = turns 64 in
     let by : (a b : ℕ) → t (bitXor a b) ≡ bitXor (t a) (t b) = turns-linear 64 .through in
-    let u = upper * 2 ^ 63 % 2 ^ 64 in
-    let left : crcOf2 (bitXor lower u) (bitXor w (upper / 2)) ≡ bitXor (bitXor (t (t lower)) (t w)) (t (t (t upper))) =
+    let u = shl upper 63 in
+    let left : crcOfTwo (bitXor lower u) (bitXor w (upper / 2)) ≡ bitXor (bitXor (t (t lower)) (t w)) (t (t (t upper))) =
     by (t (bitXor lower u)) (bitXor w (upper / 2))
     ∙ ap₂ bitXor (ap t (by lower u) ∙ by (t lower) (t u)) (by w (upper / 2))
     ∙ xor-cross (t (t lower)) (t (t u)) (t w) (t (upper / 2))
     ∙ ap (bitXor (bitXor (t (t lower)) (t w))) (times-128 upper h) in
-    let right : t (bitXor (crcOf2 upper lower) w) ≡ bitXor (bitXor (t (t (t upper))) (t (t lower))) (t w) =
-    by (crcOf2 upper lower) w
+    let right : t (bitXor (crcOfTwo upper lower) w) ≡ bitXor (bitXor (t (t (t upper))) (t (t lower))) (t w) =
+    by (crcOfTwo upper lower) w
     ∙ ap (λ (k : ℕ). bitXor k (t w)) (ap t (by (t upper) lower) ∙ by (t (t upper)) (t lower)) in
     left ∙ xor-comm (bitXor (t (t lower)) (t w)) (t (t (t upper))) ∙ sym (xor-assoc (t (t (t upper))) (t (t lower)) (t w)) ∙ sym right
 
--- ---- a word, and two, brought down to a byte by shifts, as the code does
-
--- k places up; what leaves the word is lost
-abbrev shl : ℕ → ℕ → ℕ
-shl w k = w * 2 ^ k % 2 ^ 64
+-- ---- a word, and two, brought down to a byte by shifts, as the code does: to 36 coefficients, 24, 16, times x^8 to 12, and to 8
 
 abbrev to36 : ℕ → ℕ
 to36 w = bitXor (bitXor (bitXor (shl (w / 2 ^ 32) 4) (shl (w % 2 ^ 32) 3)) (shl (w % 2 ^ 32) 2)) (w % 2 ^ 32)
 
+linear36 : Linear to36
+linear36 = sum (sum (sum (after (up 4) (shifted-down 32)) (after (up 3) (lowest 32))) (after (up 2) (lowest 32))) (lowest 32)
+
 abbrev to24 : ℕ → ℕ
 to24 w = bitXor (bitXor (bitXor (shl (w / 2 ^ 20) 8) (shl (w % 2 ^ 20) 4)) (shl (w % 2 ^ 20) 2)) (w % 2 ^ 20)
 
+linear24 : Linear to24
+linear24 = sum (sum (sum (after (up 8) (shifted-down 20)) (after (up 4) (lowest 20))) (after (up 2) (lowest 20))) (lowest 20)
+
 abbrev to16 : ℕ → ℕ
 to16 w = bitXor (bitXor (bitXor (w / 2 ^ 8) (shl (w % 2 ^ 8) 8)) (shl (w % 2 ^ 8) 6)) (shl (w % 2 ^ 8) 4)
+
+linear16 : Linear to16
+linear16 = sum (sum (sum (shifted-down 8) (after (up 8) (lowest 8))) (after (up 6) (lowest 8))) (after (up 4) (lowest 8))
 
 abbrev to12 : ℕ → ℕ
 to12 w =
@@ -136,37 +140,36 @@ to12 w =
     (bitXor (bitXor (bitXor (bitXor (shl (w % 2 ^ 8) 4) (shl (w % 2 ^ 8) 2)) (w % 2 ^ 8)) (shl (w / 2 ^ 8) 4)) (shl (w / 2 ^ 8) 3))
     (shl (w / 2 ^ 8) 2)
 
+linear12 : Linear to12
+linear12 =
+    sum
+    (sum (sum (sum (sum (after (up 4) (lowest 8)) (after (up 2) (lowest 8))) (lowest 8)) (after (up 4) (shifted-down 8)))
+    (after (up 3) (shifted-down 8)))
+    (after (up 2) (shifted-down 8))
+
 abbrev to8 : ℕ → ℕ
 to8 w = bitXor (bitXor (bitXor (w / 2 ^ 4) (shl (w % 2 ^ 4) 4)) (shl (w % 2 ^ 4) 3)) (shl (w % 2 ^ 4) 2) % 2 ^ 8
+
+linear8 : Linear to8
+linear8 =
+    after (lowest 8) (sum (sum (sum (shifted-down 4) (after (up 4) (lowest 4))) (after (up 3) (lowest 4))) (after (up 2) (lowest 4)))
 
 -- one word
 abbrev down : ℕ → ℕ
 down w = to8 (to12 (to16 (to24 (to36 w))))
 
+down-linear : Linear down
+down-linear = after linear8 (after linear12 (after linear16 (after linear24 linear36)))
+
 -- the upper of two, in the lower one's place
 abbrev over : ℕ → ℕ
 over u = bitXor (shl u 63) (shl u 60)
 
-abbrev below : ℕ → ℕ
-below u = bitXor (bitXor (bitXor (bitXor (bitXor u (u / 2 ^ 1)) (u / 2 ^ 4)) (over u)) (over u / 2 ^ 1)) (over u / 2 ^ 4)
-
-down-linear : Linear down
-down-linear =
-    after
-    (after (lowest 8) (sum (sum (sum (shifted-down 4) (after (up 4) (lowest 4))) (after (up 3) (lowest 4))) (after (up 2) (lowest 4))))
-    (after
-    (sum
-    (sum (sum (sum (sum (after (up 4) (lowest 8)) (after (up 2) (lowest 8))) (lowest 8)) (after (up 4) (shifted-down 8)))
-    (after (up 3) (shifted-down 8)))
-    (after (up 2) (shifted-down 8)))
-    (after
-    (sum (sum (sum (shifted-down 8) (after (up 8) (lowest 8))) (after (up 6) (lowest 8))) (after (up 4) (lowest 8)))
-    (after
-    (sum (sum (sum (after (up 8) (shifted-down 20)) (after (up 4) (lowest 20))) (after (up 2) (lowest 20))) (lowest 20))
-    (sum (sum (sum (after (up 4) (shifted-down 32)) (after (up 3) (lowest 32))) (after (up 2) (lowest 32))) (lowest 32)))))
-
 over-linear : Linear over
 over-linear = sum (up 63) (up 60)
+
+abbrev below : ℕ → ℕ
+below u = bitXor (bitXor (bitXor (bitXor (bitXor u (u / 2 ^ 1)) (u / 2 ^ 4)) (over u)) (over u / 2 ^ 1)) (over u / 2 ^ 4)
 
 below-linear : Linear below
 below-linear =
@@ -181,7 +184,7 @@ down-upper : (u : ℕ) → u < 2 ^ 64 → down (below u) ≡ turns 64 (turns 64 
 unfolding turns turn
 down-upper = basis (after down-linear below-linear) (after (turns-linear 64) (turns-linear 64)) 64 refl
 
-pub down-two : (upper lower : ℕ) → upper < 2 ^ 64 → lower < 2 ^ 64 → down (bitXor lower (below upper)) ≡ crcOf2 upper lower
+pub down-two : (upper lower : ℕ) → upper < 2 ^ 64 → lower < 2 ^ 64 → down (bitXor lower (below upper)) ≡ crcOfTwo upper lower
 down-two upper lower hu hl =
     down-linear .through lower (below upper)
     ∙ ap₂ bitXor (down-one lower hl) (down-upper upper hu)
@@ -199,10 +202,10 @@ word-take (suc f) (x ∷ xs) t =
     rw (bits, mod-pow-add (wordOf xs * 256 + x) (f * 8) 8, digits-div (wordOf xs) (t .0), digits-mod (wordOf xs) (t .0), word-take f xs (t .1))
 
 -- shifted up until the bits above are gone, as many turns as are left of 64 are made of what stays
-turns-cut : (y j k : ℕ) → k + j ≡ 64 → turns 64 (y * 2 ^ k % 2 ^ 64) ≡ turns j (y % 2 ^ j)
+turns-cut : (y j k : ℕ) → k + j ≡ 64 → turns 64 (shl y k) ≡ turns j (y % 2 ^ j)
 turns-cut y j k e =
     let whole : j + k ≡ 64 = omega arith in
-    let cut : y * 2 ^ k % 2 ^ 64 ≡ y % 2 ^ j * 2 ^ k =
+    let cut : shl y k ≡ y % 2 ^ j * 2 ^ k =
     ap (λ (n : ℕ). y * 2 ^ k % 2 ^ n) (sym whole) ∙ mod-pow-add (y * 2 ^ k) j k
     ∙ ap₂ (λ (q r : ℕ). q % 2 ^ j * 2 ^ k + r) (shl-shr y k) (mul-mod-left y (2 ^ k)) ∙ add-zero (y % 2 ^ j * 2 ^ k) in
     rw cut (ap (λ (n : ℕ). turns n (y % 2 ^ j * 2 ^ k)) (sym e) ∙ turns-add k j (y % 2 ^ j * 2 ^ k) ∙ ap (turns j) (turns-up k (y % 2 ^ j)))
@@ -222,17 +225,17 @@ crc-rest bytes t c from count hc h =
     (ap (crcFrom c) (take-append-drop count (drop from bytes)))
 
 -- the CRC of two words is a byte
-two-byte : (upper lower : ℕ) → upper < 2 ^ 64 → lower < 2 ^ 64 → crcOf2 upper lower < 256
+two-byte : (upper lower : ℕ) → upper < 2 ^ 64 → lower < 2 ^ 64 → crcOfTwo upper lower < 256
 two-byte upper lower hu hl = rw (← down-two upper lower hu hl) (mod-lt _ (pow-pos 8))
 
 module _ (bytes : List ℕ) (t : Digits 256 bytes) where
   pub word-first : (c f : ℕ) → c < 256 → 1 ≤ f → f ≤ 8 → 8 ≤ length bytes
-      → crcFrom (crcOf2 0 (bitXor (wordOf (part 0 8 bytes)) c * 2 ^ (64 - 8 * f) % 2 ^ 64)) (drop f bytes) ≡ crcFrom c bytes
+      → crcFrom (crcOfTwo 0 (shl (bitXor (wordOf (part 0 8 bytes)) c) (64 - 8 * f))) (drop f bytes) ≡ crcFrom c bytes
   word-first c f hc some most h =
       let w = wordOf (part 0 8 bytes) in
-      let shifted = bitXor w c * 2 ^ (64 - 8 * f) % 2 ^ 64 in
+      let shifted = shl (bitXor w c) (64 - 8 * f) in
       let byte : c < 2 ^ (f * 8) = lt-of-lt-of-le hc (pow-mono {i = 8} {j = f * 8} (omega arith)) in
-      let first : crcOf2 0 shifted ≡ turns (f * 8) (bitXor c (wordOf (part 0 f bytes))) =
+      let first : crcOfTwo 0 shifted ≡ turns (f * 8) (bitXor c (wordOf (part 0 f bytes))) =
       ap (λ (z : ℕ). turns 64 (bitXor z shifted)) (at-zero (turns-linear 64))
       ∙ turns-cut (bitXor w c) (f * 8) (64 - 8 * f) (omega arith)
       ∙ ap (turns (f * 8))
@@ -242,7 +245,7 @@ module _ (bytes : List ℕ) (t : Digits 256 bytes) where
       rw first (rw (zero-add f) at (crc-rest bytes t c 0 f hc (omega arith)))
 
   pub word-next : (upper lower i : ℕ) → upper < 2 ^ 64 → lower < 2 ^ 64 → i + 8 ≤ length bytes
-      → crcFrom (crcOf2 (bitXor lower (upper * 2 ^ 63 % 2 ^ 64)) (bitXor (wordOf (part i 8 bytes)) (upper / 2))) (drop (i + 8) bytes)
-      ≡ crcFrom (crcOf2 upper lower) (drop i bytes)
+      → crcFrom (crcOfTwo (bitXor lower (shl upper 63)) (bitXor (wordOf (part i 8 bytes)) (upper / 2))) (drop (i + 8) bytes)
+      ≡ crcFrom (crcOfTwo upper lower) (drop i bytes)
   word-next upper lower i hu hl h =
-      rw (two-next upper lower (wordOf (part i 8 bytes)) hu) (crc-rest bytes t (crcOf2 upper lower) i 8 (two-byte upper lower hu hl) h)
+      rw (two-next upper lower (wordOf (part i 8 bytes)) hu) (crc-rest bytes t (crcOfTwo upper lower) i 8 (two-byte upper lower hu hl) h)

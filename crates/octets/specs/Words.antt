@@ -1,4 +1,4 @@
--- What the quicker ways to the CRC go by: a shift register, eight bytes as one number, and rows added up. Only functions that nobody else can call
+-- What the quicker ways to the CRC go by: a shift register, bytes as one number, and rows added up. Only functions that nobody else can call
 -- promise anything in these words; `crc_from` promises `crcFrom`.
 use mathlib.Core.List.{List, [], _∷_, _++_}
 use Prim.Native.Nat.{ℕ, zero, suc, _+_, _*_, _/_, _%_}
@@ -13,6 +13,10 @@ turn c = bitXor (c / 2) (c % 2 * 0b11100000)
 unfoldable pub turns : ℕ → ℕ → ℕ
 turns zero c = c
 turns (suc n) c = turns n (turn c)
+
+-- So of two words of 64 bits, the upper one first, it is this: the first has been turned out of the register when the second comes in.
+abbrev pub crcOfTwo : ℕ → ℕ → ℕ
+crcOfTwo upper lower = turns 64 (bitXor (turns 64 upper) lower)
 
 -- Bytes as one number, the first of them lowest: the bits lie as they are sent, from the lowest up.
 abbrev pub wordOf : List ℕ → ℕ

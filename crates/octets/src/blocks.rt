@@ -22,7 +22,7 @@ pub(crate) fn sum_of_blocks(running: u8, bytes: &[u8]) -> [u8; 127]
     sum
 }
 
-// Adds the block at `at` to the sum. In two steps: 112 bytes are seven times sixteen, which compilers make seven instructions of, and the rest is short.
+// Adds the block at `at` to the sum. In two steps: 112 bytes are seven times sixteen, the most that a processor adds at once, and what is left is short.
 fn add_block(s: &[u8], at: usize, sum: &mut [u8; 127])
     requires { ⌜ (at + 127 ≤ length (now s)) × (length (now sum) ≡ 127) ⌝ }
     ensures { λ _. ⌜ now (sum .exit) ≡ added (now (sum .entry)) (part at 127 (now (s .entry))) ⌝ }

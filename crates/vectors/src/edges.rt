@@ -67,7 +67,7 @@ pub(crate) fn row(name: &[u8], running: u8, count: usize) {
     }
 }
 
-// Byte n is n modulo 251, a prime: no two blocks of 127 are alike, nor any two words behind each other.
+// Byte n is n modulo 251, a prime: no two blocks of 127 are alike, nor a word and the next.
 fn counted() -> [u8; 4096] {
     let mut s = [0; 4096];
     let mut n = 0;

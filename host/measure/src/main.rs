@@ -4,6 +4,7 @@ mod count;
 mod crc;
 mod logs;
 mod spread;
+mod ways;
 
 use std::env;
 use std::error::Error;

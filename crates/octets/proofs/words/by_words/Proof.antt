@@ -13,10 +13,10 @@ use lib.ListN.{length, drop}
 use Rattle.octets.specs.Crc.{crcFrom}
 use Rattle.octets.specs.Numbers.{Digits}
 use Rattle.octets.specs.Places.{part}
-use Rattle.octets.specs.Words.{wordOf}
+use Rattle.octets.specs.Words.{crcOfTwo, wordOf}
 use Rattle.octets.proofs.CrcLaws.{crc-from-end}
 use Rattle.octets.proofs.NumberLaws.{digits-of}
-use Rattle.octets.proofs.WordLaws.{crcOf2, word-first, word-next}
+use Rattle.octets.proofs.WordLaws.{word-first, word-next}
 use Rattle.octets.proofs.words.by_words.Statement.{statement}
 use Rattle.octets.proofs.words.by_words.Tie as tie
 
@@ -24,7 +24,7 @@ use Rattle.octets.proofs.words.by_words.Tie as tie
 abbrev GoesOn : ℕ → List ℕ → ℕ → ℕ → ℕ → Type 0
 GoesOn whole bytes upper lower i =
     (i ≤ length bytes) × ((length bytes - i) % 8 ≡ 0) × (upper < 2 ^ 64) × (lower < 2 ^ 64)
-    × (crcFrom (crcOf2 upper lower) (drop i bytes) ≡ whole)
+    × (crcFrom (crcOfTwo upper lower) (drop i bytes) ≡ whole)
 
 abbrev Inv-loop : tie.InvT-loop
 Inv-loop running bytes first upper₀ lower₀ i₀ upper lower i = GoesOn (crcFrom running bytes) bytes upper lower i
@@ -99,7 +99,7 @@ returns c =
     let test = c .before .before in
     let bytes = now (test .before .before .before .args .bytes) in
     c .reduced .ensures
-    ∙ sym (crc-from-end (crcOf2 (test .loop .upper) (test .loop .lower)) bytes (test .loop .i) (search needs))
+    ∙ sym (crc-from-end (crcOfTwo (test .loop .upper) (test .loop .lower)) bytes (test .loop .i) (search needs))
     ∙ test .loop .inv .4
 
 pub by-words-spec : {M : Type 1} → statement M

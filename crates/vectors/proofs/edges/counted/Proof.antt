@@ -1,8 +1,8 @@
 -- `vectors::edges::counted` is safe and ends: each turn leaves a place less.
 use Prim.Native.Nat.{_-_, _≤_}
-use mathlib.Core.Path.{_≡_, refl}
+use mathlib.Core.Path.{_≡_}
 use borrow.Author.Needs.{needs}
-use lib.ListN.{length, length-set}
+use lib.ListN.{length}
 use Rattle.vectors.proofs.edges.counted.Statement.{statement}
 use Rattle.vectors.proofs.edges.counted.Tie as tie
 
