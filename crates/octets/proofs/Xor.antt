@@ -1,4 +1,4 @@
--- Exclusive or is associative, and two sums of two can be added crosswise. From bit to bit: numbers are equal where
+-- Exclusive or is associative, two sums of two can be added crosswise, and of bits it goes through a product. From bit to bit: numbers are equal where
 -- their halves and their last bits are.
 use mathlib.Core.Path.{_≡_, refl, sym, _∙_}
 use Prim.Native.Nat.{ℕ, zero, suc, _*_, _/_, _%_, _<_}

@@ -15,15 +15,16 @@ pub(crate) fn by_words(running: u8, bytes: &[u8]) -> u8
     requires { ⌜ 8 ≤ length (now bytes) ⌝ }
     ensures { λ r. ⌜ r ≡ crcFrom running (now (bytes .entry)) ⌝ }
 {
-    let first = (bytes.len() - 1) % 8 + 1;
+    let size = bytes.len();
+    let first = (size - 1) % 8 + 1;
     let mut upper = 0;
     let mut lower = (word_at(bytes, 0) ^ running as u64) << (64 - 8 * first);
-    let mut i = first;
-    while i < bytes.len() {
-        let next = word_at(bytes, i) ^ (upper >> 1);
+    let mut left = size - first;
+    while 0 < left {
+        let next = word_at(bytes, size - left) ^ (upper >> 1);
         upper = lower ^ (upper << 63);
         lower = next;
-        i += 8;
+        left -= 8;
     }
     reduced(upper, lower)
 }
