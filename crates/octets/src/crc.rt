@@ -21,8 +21,8 @@ pub fn crc_from(running: u8, bytes: &[u8]) -> u8
     if size < 8 {
         return by_table(running, bytes);
     }
-    // Blocks are ahead from three on.
-    if size < 3 * 127 {
+    // Blocks are ahead from four on.
+    if size < 8 + 4 * 127 {
         return by_words(running, bytes);
     }
     // What is no whole block comes first, and is at least a word.

@@ -34,13 +34,13 @@ pub fn eight_tables(bytes: &[u8]) -> u8 {
     rest.iter().fold(crc, |crc, byte| TABLES[0][usize::from(crc ^ byte)])
 }
 
-/// What the terminal does: a table below eight bytes, words, and blocks of 127 from three on. What it takes less or more than this is its toolchain's doing.
+/// What the terminal does: a table below eight bytes, words, and blocks of 127 from four on. What it takes less or more than this is its toolchain's doing.
 pub fn words_and_blocks(bytes: &[u8]) -> u8 {
     let size = bytes.len();
     if size < 8 {
         return bytes.iter().fold(0, |crc, byte| TABLES[0][usize::from(crc ^ byte)]);
     }
-    if size < 3 * 127 {
+    if size < 8 + 4 * 127 {
         return words(bytes);
     }
     let (first, blocks) = bytes.split_at((size - 8) % 127 + 8);

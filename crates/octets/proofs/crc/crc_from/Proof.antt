@@ -19,6 +19,9 @@ returns c = search needs
 mul-if2 : tie.Need-mul-if2
 mul-if2 c = search needs
 
+add-if2 : tie.Need-add-if2
+add-if2 c = search needs
+
 by-words-requires : tie.Need-by-words-requires
 by-words-requires c κs = search needs
 
@@ -75,6 +78,7 @@ crc-from-spec =
     by-table-requires
     returns
     mul-if2
+    add-if2
     by-words-requires
     returns-2
     add-first
