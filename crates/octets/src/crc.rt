@@ -1,5 +1,5 @@
-// The CRC of RMAP (document 01, 'CRC'; 001, clause 5.2): g(x) = x^8 + x^2 + x + 1, least significant bit first, start 0. Three ways lead to it, and each is
-// taken for rows of the lengths that it is for: a byte at a time, eight at a time, and blocks of 127.
+// The CRC of RMAP (document 01, 'CRC'; 001, clause 5.2): g(x) = x^8 + x^2 + x + 1, least significant bit first, start 0. Three ways lead to it, by the length of
+// the row: a byte at a time by a table, eight at a time by words, and blocks of 127 that are added up first.
 ghost use mathlib.Core.Path.{_≡_};
 ghost use Rattle.octets.specs.Crc.{crc, crcFrom};
 use crate::blocks::sum_of_blocks;
