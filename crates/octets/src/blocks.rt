@@ -22,7 +22,7 @@ pub(crate) fn sum_of_blocks(running: u8, bytes: &[u8]) -> [u8; 127]
     sum
 }
 
-// Adds the block at `at` to the sum. In two steps: 112 bytes are seven times sixteen, the most that a processor adds at once, and what is left is short.
+// Adds the block at `at` to the sum. In two steps: 112 bytes are seven times sixteen, which processors add at once, and what is left is short.
 fn add_block(s: &[u8], at: usize, sum: &mut [u8; 127])
     requires { ⌜ (at + 127 ≤ length (now s)) × (length (now sum) ≡ 127) ⌝ }
     ensures { λ _. ⌜ now (sum .exit) ≡ added (now (sum .entry)) (part at 127 (now (s .entry))) ⌝ }
@@ -31,7 +31,7 @@ fn add_block(s: &[u8], at: usize, sum: &mut [u8; 127])
     add_places(s, at, 112, 127, sum);
 }
 
-// Adds the places of that block from `from` to `to`: what is left from there on makes the same of them.
+// Adds that block's places from `from` up to `to`. To add those from `to` on then leaves what adding all from `from` on would have left of the sum before.
 fn add_places(s: &[u8], at: usize, from: usize, to: usize, sum: &mut [u8; 127])
     requires { ⌜ (at + 127 ≤ length (now s)) × (length (now sum) ≡ 127) × (from ≤ to) × (to ≤ 127) ⌝ }
     ensures size { λ _. ⌜ length (now (sum .exit)) ≡ 127 ⌝ }
