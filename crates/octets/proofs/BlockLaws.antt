@@ -5,15 +5,15 @@ use Prim.Native.Nat.{ℕ, zero, suc, _+_, _-_, _*_, _%_, _<_, _≤_}
 use native.Mathlib.Omega.{arith}
 use native.Mathlib.Numerals.{add-one}
 use lib.Bits.{bitXor, xor-lt, xor-zero-r}
-use lib.ListN.{length, getD, take, drop, set, replicate, take-append-drop, drop-of-length-le}
-use lib.Seq.{drop-cons, drop-drop, take-suc-set, drop-set-lt, append-snoc, take-all}
+use lib.ListN.{length, getD, take, drop, set, replicate, drop-of-length-le}
+use lib.Seq.{drop-cons, take-suc-set, drop-set-lt, append-snoc, take-all}
 use Rattle.octets.specs.Crc.{crc, crcFrom}
 use Rattle.octets.specs.Numbers.{Digits}
 use Rattle.octets.specs.Places.{part}
 use Rattle.octets.specs.Words.{turn, turns, wordOf, added, addedFrom}
 use Rattle.octets.proofs.CrcLaws.{crc-byte, crc-from-append, crc-from-byte}
 use Rattle.octets.proofs.NumberLaws.{digits-part}
-use Rattle.octets.proofs.PlaceLaws.{length-part}
+use Rattle.octets.proofs.PlaceLaws.{length-part, part-rest}
 use Rattle.octets.proofs.Linear.{itself, basis}
 use Rattle.octets.proofs.WordLaws.{turns-linear, turns-add, crc-turns, crc-word}
 use Rattle.octets.proofs.Xor.{xor-cross}
@@ -134,8 +134,7 @@ block-next whole bytes sum i t h s =
           crc-from-append 0 (added sum block) (drop (i + 127) bytes)
           ∙ ap (λ (k : ℕ). crcFrom k (drop (i + 127) bytes)) (sym (block-sum sum block (s .digits) (digits-part bytes i 127 t) (s .size) long))
           ∙ sym (crc-from-append 0 (sum ++ block) (drop (i + 127) bytes))
-          ∙ ap (crcFrom 0) (append-assoc sum block (drop (i + 127) bytes)
-          ∙ ap (λ (l : List ℕ). sum ++ (block ++ l)) (sym (drop-drop 127 i bytes)) ∙ ap (λ (l : List ℕ). sum ++ l) (take-append-drop 127 (drop i bytes)))
+          ∙ ap (crcFrom 0) (append-assoc sum block (drop (i + 127) bytes) ∙ ap (λ (l : List ℕ). sum ++ l) (part-rest i 127 bytes))
           ∙ s .goes;
     }
 

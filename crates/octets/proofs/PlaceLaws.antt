@@ -53,6 +53,11 @@ pub part-split : (from m k to : ℕ) (s : List ℕ) → from + m ≡ to → part
 part-split from m k to s e =
     rw (← e) (take-add m k (drop from s) ∙ ap (λ (l : List ℕ). part from m s ++ take k l) (drop-drop m from s))
 
+-- a part, and all that stands behind it
+pub part-rest : (from count : ℕ) (s : List ℕ) → part from count s ++ drop (from + count) s ≡ drop from s
+part-rest from count s =
+    ap (λ (l : List ℕ). part from count s ++ l) (sym (drop-drop count from s)) ∙ take-append-drop count (drop from s)
+
 pub part-first : (from k to : ℕ) (s : List ℕ) → from + 1 ≡ to → to ≤ length s → part from (1 + k) s ≡ getD s from 0 ∷ part to k s
 part-first from k to s e h =
     part-split from 1 k to s e ∙ ap (λ (l : List ℕ). l ++ part to k s) (part-bytes from 0 s (omega arith))

@@ -7,15 +7,15 @@ use native.Mathlib.Nat.{zero-mul, zero-add, add-zero, suc-add, mul-assoc, mul-co
 use lib.Arith.{digits-div, digits-mod}
 use lib.Bits.{bitXor, xor-mod, xor-block, xor-comm, xor-zero-r, xor-lt, xor-shifted}
 use lib.Pow.{pow-pos, pow-mono, shl-shr, mod-pow-add}
-use lib.ListN.{length, getD, take, drop, take-append-drop}
-use lib.Seq.{take-take, drop-drop}
+use lib.ListN.{length, getD, take, drop}
+use lib.Seq.{take-take}
 use Rattle.octets.specs.Crc.{crc, crcFrom, message, remainder, mirrored, modulo, bits}
 use Rattle.octets.specs.Numbers.{Digits, number}
 use Rattle.octets.specs.Places.{part}
 use Rattle.octets.specs.Words.{turn, turns, crcOfTwo, wordOf}
 use Rattle.octets.proofs.CrcLaws.{crc-byte, crc-from-append}
 use Rattle.octets.proofs.NumberLaws.{digits-part}
-use Rattle.octets.proofs.PlaceLaws.{length-part, part-bytes}
+use Rattle.octets.proofs.PlaceLaws.{length-part, part-bytes, part-rest}
 use Rattle.octets.proofs.Tabulate.{same}
 use Rattle.octets.proofs.Xor.{low, bit-times, xor-cross, xor-assoc}
 use Rattle.octets.proofs.Linear.{Linear, itself, sum, after, shifted-down, shifted-up, lowest, at-zero, basis}
@@ -221,8 +221,8 @@ crc-part bytes t c from count hc h =
 crc-rest : (bytes : List ℕ) → Digits 256 bytes → (c from count : ℕ) → c < 256 → from + count ≤ length bytes
     → crcFrom (turns (count * 8) (bitXor c (wordOf (part from count bytes)))) (drop (from + count) bytes) ≡ crcFrom c (drop from bytes)
 crc-rest bytes t c from count hc h =
-    rw (← crc-part bytes t c from count hc h, ← crc-from-append c (part from count bytes) (drop (from + count) bytes), ← drop-drop count from bytes)
-    (ap (crcFrom c) (take-append-drop count (drop from bytes)))
+    rw (← crc-part bytes t c from count hc h, ← crc-from-append c (part from count bytes) (drop (from + count) bytes))
+    (ap (crcFrom c) (part-rest from count bytes))
 
 -- the CRC of two words is a byte
 two-byte : (upper lower : ℕ) → upper < 2 ^ 64 → lower < 2 ^ 64 → crcOfTwo upper lower < 256

@@ -102,3 +102,18 @@ fn seconds(program: &Path, log: &Path) -> Result<f64, Box<dyn Error>> {
         Err(format!("{}: {ended}", program.display()).into())
     }
 }
+
+#[cfg(test)]
+mod tests {
+    use super::*;
+
+    #[test]
+    fn reads_and_writes_are_obeyed() {
+        for (name, record) in [("read", read(4)), ("long read", read(4096)), ("write", verified_write(1024))] {
+            let mut printed = Vec::new();
+            model::bench::run(&stories::bytes(&[record]), &mut printed);
+            let line = String::from_utf8_lossy(&printed).lines().nth(1).map(String::from);
+            assert!(line.is_some_and(|line| line.starts_with("1 20 00 ")), "{name}");
+        }
+    }
+}
