@@ -5,10 +5,10 @@ use Rattle.packets.specs.Instruction.{kindOf}
 use Rattle.packets.specs.Path.{withoutLeadingZeros, orOneZero, pathOf}
 use Rattle.packets.specs.Reading.{readProtocol, readPacket}
 use Rattle.unit.specs.Counters.{countedFor}
-use Rattle.unit.specs.Clock.{afterTicks}
+use Rattle.unit.specs.Clock.{nearestSecond, afterCode, afterTicks}
 use Rattle.unit.specs.Judge.{judged}
-use Rattle.unit.specs.Calls.{takePacket, takeTicks}
-use Rattle.demands.specs.Cases.{HandCases}
+use Rattle.unit.specs.Calls.{takePacket, takeTimeCode, takeTicks}
+use Rattle.demands.specs.Cases.{HandCases, WrapCases}
 
 pub hand-cases : HandCases
 unfolding crc mirrored bits remainder message modulo kindOf withoutLeadingZeros orOneZero pathOf readProtocol readPacket afterTicks takePacket judged countedFor takeTicks
@@ -26,4 +26,19 @@ hand-cases = (
   λ u end link lent works there. rw (works, there),
   λ u end link lent works there. rw (works, there),
   λ u works most. rw (works, most),
+)
+
+pub wrap-cases : WrapCases
+unfolding takeTimeCode afterCode nearestSecond
+wrap-cases = (
+  λ u works last waits et. rw (works, last, waits, et),
+  λ u works last waits et. rw (works, last, waits, et),
+  λ u works last waits et. rw (works, last, waits, et),
+  λ u works last waits et. rw (works, last, waits, et),
+  λ u works last waits et. rw (works, last, waits, et),
+  λ u works last waits et. rw (works, last, waits, et),
+  λ u works last waits et. rw (works, last, waits, et),
+  λ u works last waits et. rw (works, last, waits, et),
+  λ u works last waits et. rw (works, last, waits, et),
+  λ w. (λ u works last waits et. rw (works, last, waits), λ u works last waits et. rw (works, last, waits)),
 )

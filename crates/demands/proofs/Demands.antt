@@ -1,6 +1,6 @@
 -- The customer's demands hold of our terminal.
 use Rattle.demands.specs.Terminal.{ours}
-use Rattle.demands.specs.Demands.{Demand1, Demand2, Demand3, Histories, NamesKept}
+use Rattle.demands.specs.Demands.{Demand1, Demand2, Demand3, Histories, NamesKept, SecondsKept}
 use Rattle.demands.proofs.RefusalsHold.{row-by-row}
 use Rattle.demands.proofs.NumbersHold.{one-two-three, small-rows, listed}
 use Rattle.demands.proofs.RowsReached.{no-row-empty}
@@ -11,6 +11,8 @@ use Rattle.demands.proofs.RepliesHold.{replies}
 use Rattle.demands.proofs.ListsHold.{merges}
 use Rattle.demands.proofs.CountsHold.{counters-are-history, low-count-nothing}
 use Rattle.demands.proofs.NamesHold.{rows-kept, missing-refused, missing-is-f1, obeyed-in-window}
+use Rattle.demands.proofs.SecondsHold.{wrap-moves-half, one-is-nearest, ticks-are-seconds, one-second, one-second-in-order}
+use Rattle.demands.proofs.SecondsShown.{some-turn}
 
 pub demand-1 : Demand1 ours
 demand-1 = (row-by-row, one-two-three, small-rows, listed, no-row-empty, never-strays, set-up-stays, stays-usable, comes-back)
@@ -26,3 +28,6 @@ histories = (counters-are-history, low-count-nothing)
 
 pub names-kept : NamesKept ours
 names-kept = (rows-kept, missing-refused, missing-is-f1, obeyed-in-window)
+
+pub seconds-kept : SecondsKept ours
+seconds-kept = (wrap-moves-half, one-is-nearest, ticks-are-seconds, one-second, one-second-in-order, some-turn)

@@ -43,6 +43,7 @@ use Rattle.demands.specs.Counts.{countOf, countOfAll, Counting, counted,
 use Rattle.demands.specs.Impostors.{refusesAll, doesNothing, repliesZero, obeysFirst, inventsCounters, repliesNothing, givesUp, clearsMemory, ImpostorsShutOut, ThreeAloneLetsBy, SomeReplyLetsBy, OneLengthLetsBy, RefusedAloneLetsBy}
 use Rattle.demands.proofs.NamesHold.{byte-in}
 use Rattle.demands.proofs.NumbersHold.{one-two-three}
+use Rattle.demands.proofs.SecondsShown.{ahead-moves-more, ahead-by-ticks, ahead-in-order}
 use Rattle.demands.proofs.MeaningHolds.{refused-changes-none}
 use Rattle.unit.proofs.UsableLaws.{packet-with-memory, code-with-memory, ticks-with-memory}
 use Rattle.unit.proofs.CommandLaws.{packet-is, command-fate}
@@ -243,4 +244,7 @@ impostors-shut-out = (
   replies-nothing-shut-out,
   gives-up-shut-out,
   clears-memory-shut-out,
+  ahead-moves-more,
+  ahead-by-ticks,
+  ahead-in-order,
 )

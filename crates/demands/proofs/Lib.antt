@@ -11,9 +11,11 @@ pub mod Weave
 pub mod Steps
 pub mod ListsHold
 pub mod CountsHold
+pub mod SecondsHold
 pub mod NamesHold
 pub mod CasesHold
 pub mod OutcomesHold
 pub mod Witnesses
+pub mod SecondsShown
 pub mod ImpostorsShown
 pub mod OnlyOurs

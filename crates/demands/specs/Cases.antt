@@ -1,4 +1,4 @@
--- Document 01's 'Cases by hand', in one table.
+-- Document 01's 'Cases by hand', in one table; and beside it the cases of the Time-Code's wrap, which request 3 of document 02 asks for.
 use mathlib.Core.Path.{_≡_}
 use mathlib.Core.Bool.{true}
 use mathlib.Core.List.{List, [], _∷_}
@@ -15,7 +15,10 @@ use Rattle.unit.specs.Usable.{usable, usableUnit}
 use Rattle.unit.specs.Act.{combineByte}
 use Rattle.unit.specs.Given.{Lent}
 use Rattle.unit.specs.Judge.{isLink}
-use Rattle.unit.specs.Calls.{takePacket, takeTicks}
+use Rattle.unit.specs.Calls.{takePacket, takeTimeCode, takeTicks}
+use Rattle.unit.specs.declared.clock.Elapsed.{Elapsed}
+use Rattle.unit.specs.declared.clock.Waiting.{Waiting}
+use Rattle.unit.specs.declared.clock.Waiting.the-variants.{NoValue, Value}
 use Rattle.unit.specs.declared.unit.Unit.{Unit as TheUnit}
 
 -- An instruction is a command of a kind, incrementing and with a reply.
@@ -53,3 +56,26 @@ HandCases =
     × Gets (0xFE ∷ 0x00 ∷ []) 13
     -- ET 2^56-1 and one tick
     × ((u : TheUnit) → usableUnit u ≡ true → u .clock .elapsed .value ≡ 2 ^ 56 - 1 → takeTicks u 1 .unit .clock .elapsed .value ≡ 0)
+
+-- Time-Code 0 behind 63 makes one ET of another, in every usable unit in which that waits: no value, or one.
+abbrev pub Wraps : Waiting → ℕ → ℕ → Type 0
+Wraps waiting before after =
+    (u : TheUnit) → usableUnit u ≡ true → u .clock .last ≡ 63 → u .clock .waiting ≡ waiting → u .clock .elapsed .value ≡ before
+    → takeTimeCode u 0 .unit .clock .elapsed .value ≡ after
+
+abbrev pub WrapCases : Type 0
+WrapCases =
+    -- exactly one half, and one tick below it
+    Wraps NoValue 0x00000007800000 0x00000008000000
+    × Wraps NoValue 0x000000077FFFFF 0x00000007000000
+    -- a second that is nearly over, one that has just begun, and one that begins
+    × Wraps NoValue 0x00000007FFFFFF 0x00000008000000
+    × Wraps NoValue 0x00000007000001 0x00000007000000
+    × Wraps NoValue 0x00000007000000 0x00000007000000
+    -- the last second of all: from one half on it rolls over to 0, below it stays
+    × Wraps NoValue 0xFFFFFFFFFFFFFF 0
+    × Wraps NoValue 0xFFFFFFFF800000 0
+    × Wraps NoValue 0xFFFFFFFF7FFFFF 0xFFFFFFFF000000
+    × Wraps NoValue 0xFFFFFFFF000000 0xFFFFFFFF000000
+    -- a waiting value wins on both sides of the half
+    × ((w : Elapsed) → Wraps (Value w) 0x00000007800000 (w .value) × Wraps (Value w) 0x000000077FFFFF (w .value))

@@ -1,4 +1,4 @@
--- The customer's three demands, each in one place, of any terminal. The parts stand in Refusals and Bounds (1), Meaning (2), Lists (3), Counts and Names;
+-- The customer's three demands, each in one place, of any terminal. The parts stand in Refusals and Bounds (1), Meaning (2), Lists (3), Counts, Names and Seconds;
 -- what is no matter of a terminal's answers, in Cases (hand cases), Outcomes (promises of every public function) and Impostors. That demand 1 leaves no room is
 -- said in Only.
 use Rattle.demands.specs.Terminal.{Terminal}
@@ -8,6 +8,7 @@ use Rattle.demands.specs.Meaning.{ByteByByte, OnlyStoresChange, RefusedC
 use Rattle.demands.specs.Lists.{Merges}
 use Rattle.demands.specs.Counts.{CountersAreHistory, LowCountNothing}
 use Rattle.demands.specs.Names.{RowsKept, MissingRefused, MissingIsF1, ObeyedInWindow}
+use Rattle.demands.specs.Seconds.{WrapMovesHalf, OneIsNearest, TicksAreSeconds, OneSecond, OneSecondInOrder, SomeTurn}
 
 -- 1. Any packet, any end marker, any lent memory: the terminal answers, never strays, always comes back; every refusal has its number, its
 -- reply and a fixed effect on memory, unit and reply buffer. (It checks for itself: `OctetsAskNothing`, `PacketsAskNothing`, `UnitAsksNothing`, in Outcomes.)
@@ -23,9 +24,12 @@ Demand2 t = ByteByByte t × OnlyStoresChange t × RefusedChangesNone t × Ownabl
 abbrev pub Demand3 : Terminal → Type 0
 Demand3 t = Merges t
 
--- Beside them: counters are the history, and names are kept.
+-- Beside them: counters are the history, names are kept, and the Time-Code's wrap goes to the nearest second.
 abbrev pub Histories : Terminal → Type 0
 Histories t = CountersAreHistory t × LowCountNothing t
 
 abbrev pub NamesKept : Terminal → Type 0
 NamesKept t = RowsKept × MissingRefused t × MissingIsF1 t × ObeyedInWindow t
+
+abbrev pub SecondsKept : Terminal → Type 0
+SecondsKept t = WrapMovesHalf t × OneIsNearest × TicksAreSeconds t × OneSecond t × OneSecondInOrder t × SomeTurn t

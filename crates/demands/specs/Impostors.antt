@@ -1,8 +1,8 @@
 -- Impostors (document 01, 'What a promise has to say'): terminals that a demand has to shut out.
 use mathlib.Core.Path.{_≡_}
-use mathlib.Core.Bool.{true, cond}
+use mathlib.Core.Bool.{true, cond, _&&_}
 use mathlib.Core.List.{List, []}
-use Prim.Native.Nat.{ℕ}
+use Prim.Native.Nat.{ℕ, _+_, _%_, _^_}
 use lib.Dec.{eqb}
 use lib.ListN.{length, getD, replicate}
 use Rattle.packets.specs.Reading.{readPacket}
@@ -14,11 +14,15 @@ use Rattle.packets.specs.declared.reading.Reading.the-variants.{Refused, Time, 
 use Rattle.unit.specs.Fate.{fateNumber}
 use Rattle.unit.specs.Usable.{usable}
 use Rattle.unit.specs.Counters.{total}
+use Rattle.unit.specs.Clock.{secondsOf, timeOf, afterCode}
 use Rattle.unit.specs.Act.{withClock, withCounters, countedUnit}
 use Rattle.unit.specs.Given.{Arrived, Lent}
-use Rattle.unit.specs.Calls.{Outcome, withoutReply, leaving, takePacket, takeTimeCode, takeTicks}
+use Rattle.unit.specs.Calls.{Outcome, withoutReply, leaving, takePacket, smallCall, takeTimeCode, takeTicks}
 use Rattle.unit.specs.declared.fate.Status.the-variants.{Success, NotAuthorised}
 use Rattle.unit.specs.declared.fate.Fate.the-variants.{NotObeyed, Obeyed, Replied}
+use Rattle.unit.specs.declared.clock.Clock.{Clock}
+use Rattle.unit.specs.declared.clock.Waiting.{Waiting}
+use Rattle.unit.specs.declared.clock.Waiting.the-variants.{NoValue, Value}
 use Rattle.unit.specs.declared.unit.Unit.{Unit as TheUnit}
 use Rattle.demands.specs.Terminal.{Terminal, pathIn, Call, after, Every}
 use Rattle.demands.specs.ReplyDue.{Written}
@@ -27,6 +31,7 @@ use Rattle.demands.specs.Bounds.{OfBytes, Lends, StaysUsable}
 use Rattle.demands.specs.Meaning.{ByteByByte, OnlyStoresChange, RefusedChangesNone}
 use Rattle.demands.specs.Lists.{Merges}
 use Rattle.demands.specs.Counts.{CountersAreHistory}
+use Rattle.demands.specs.Seconds.{WrapMovesHalf, OneSecond, OneSecondInOrder}
 
 -- A terminal that does something else with packets. Its small calls are ours.
 abbrev pub faking : (TheUnit → Arrived → Lent → Outcome) → Terminal
@@ -114,6 +119,25 @@ cleared o = record {
 abbrev pub clearsMemory : Terminal
 clearsMemory = faking (λ u p lent. cleared (takePacket u p lent))
 
+-- Its packets and ticks are ours, but at the wrap seconds go up whatever the fraction: document 01's terminal before request 3.
+abbrev pub goesUp : Waiting → Clock → ℕ → Clock
+goesUp (Value w) c v = afterCode c v
+goesUp NoValue c v =
+    cond (eqb (c .last) 63 && eqb v 0)
+    (record {
+      last = v;
+      elapsed = record { value = timeOf ((secondsOf (c .elapsed .value) + 1) % 2 ^ 32) 0; epoch = c .elapsed .epoch };
+      waiting = NoValue;
+    })
+    (afterCode c v)
+
+abbrev pub secondAhead : Terminal
+secondAhead = record {
+  packet = takePacket;
+  timeCode = λ u byte. smallCall u (withClock u (goesUp (u .clock .waiting) (u .clock) (byte % 2 ^ 6)));
+  ticks = takeTicks;
+}
+
 -- ---- which demand shuts out which
 
 abbrev pub ShutsOut : (Terminal → Type 0) → Terminal → Type 0
@@ -121,7 +145,8 @@ ShutsOut Demand t = Demand t → ⊥
 
 -- Demand 2, which names status, reply and memory, for any unit and memory, shuts out the first four; demand 3, of whole lists, the fourth too; the
 -- history's counts the fifth. What only claims to reply is shut out by the rows of demand 1; what gives up, by the history of demand 1, in which memory of
--- another length may be lent; what clears memory, by the part of demand 2 that says what changes it.
+-- another length may be lent; what clears memory, by the part of demand 2 that says what changes it. What gets a second ahead is shut out by what is said of a wrap,
+-- and of two, whether the Time-Codes between them are lost or come.
 abbrev pub ImpostorsShutOut : Type 0
 ImpostorsShutOut =
     ShutsOut ByteByByte refusesAll
@@ -133,12 +158,15 @@ ImpostorsShutOut =
     × ShutsOut RowByRow repliesNothing
     × ShutsOut StaysUsable givesUp
     × ShutsOut OnlyStoresChange clearsMemory
+    × ShutsOut WrapMovesHalf secondAhead
+    × ShutsOut OneSecond secondAhead
+    × ShutsOut OneSecondInOrder secondAhead
 
 -- Demand 3 alone would not do: one that does nothing does it in any order. It is asked beside demand 2.
 abbrev pub ThreeAloneLetsBy : Type 0
 ThreeAloneLetsBy = Merges doesNothing
 
--- The last three were let by by less than the demands say now. That some bytes were written as a reply: what only claims to reply has written none of
+-- The three before the last were let by by less than the demands say now. That some bytes were written as a reply: what only claims to reply has written none of
 -- them. That a unit stays usable where every memory has one length: what gives up is never given another. That refused commands change no memory: what
 -- clears it where a header CRC is wrong does so to no command.
 abbrev pub SomeReplyLetsBy : Type 0

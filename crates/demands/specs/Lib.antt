@@ -7,6 +7,7 @@ pub mod Bounds
 pub mod Meaning
 pub mod Lists
 pub mod Counts
+pub mod Seconds
 pub mod Names
 pub mod Cases
 pub mod Outcomes

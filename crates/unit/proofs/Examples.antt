@@ -16,7 +16,7 @@ use Rattle.packets.specs.declared.reading.End.the-variants.{Eop, Eep}
 use Rattle.packets.specs.declared.reading.Refusal.the-variants.{Incomplete, UnknownProtocol, ExtendedProtocol, Reply, HeaderCrc}
 use Rattle.unit.specs.Fate.{byteOf, fateNumber}
 use Rattle.unit.specs.Counters.{countedFor}
-use Rattle.unit.specs.Clock.{afterTime, afterCode, afterTicks}
+use Rattle.unit.specs.Clock.{afterTime, nearestSecond, afterCode, afterTicks}
 use Rattle.unit.specs.Owner.{swapped}
 use Rattle.unit.specs.Fields.{above, aboveField, fieldOf, rowOf, valuesOf, linkInformation, dividerWritten}
 use Rattle.unit.specs.Usable.{usableUnit, usable}
@@ -73,13 +73,16 @@ one-tick : afterTicks (at 5 (2 ^ 56 - 1)) 1 ≡ at 5 0
 unfolding afterTicks
 one-tick = refl
 
-next-second : afterCode (at 63 0x00000007FFFFFF) 0 ≡ at 0 0x00000008000000
-unfolding afterCode
+-- the next second from one half of the fraction on, the same below it; the last second of all rolls over from there on
+next-second : map (λ (et : ℕ). afterCode (at 63 et) 0) (0x00000007800000 ∷ 0x00000007800001 ∷ 0x00000007FFFFFF ∷ 0xFFFFFFFF800000 ∷ 0xFFFFFFFFFFFFFF ∷ [])
+    ≡ at 0 0x00000008000000 ∷ at 0 0x00000008000000 ∷ at 0 0x00000008000000 ∷ at 0 0 ∷ at 0 0 ∷ []
+unfolding afterCode nearestSecond
 next-second = refl
 
-last-second : afterCode (at 63 0xFFFFFFFF123456) 0 ≡ at 0 0
-unfolding afterCode
-last-second = refl
+same-second : map (λ (et : ℕ). afterCode (at 63 et) 0) (0x000000077FFFFF ∷ 0x00000007000001 ∷ 0x00000007000000 ∷ 0xFFFFFFFF123456 ∷ 0xFFFFFFFF7FFFFF ∷ [])
+    ≡ at 0 0x00000007000000 ∷ at 0 0x00000007000000 ∷ at 0 0x00000007000000 ∷ at 0 0xFFFFFFFF000000 ∷ at 0 0xFFFFFFFF000000 ∷ []
+unfolding afterCode nearestSecond
+same-second = refl
 
 next-code : afterCode (at 4 0x00000007123456) 5 ≡ at 5 0x00000007140000
 unfolding afterCode

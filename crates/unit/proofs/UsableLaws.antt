@@ -19,7 +19,7 @@ use Rattle.packets.proofs.TimeLaws.{taken-below}
 use Rattle.unit.specs.Some.{some}
 use Rattle.unit.specs.Windows.{meets, used}
 use Rattle.unit.specs.Usable.{fitsTime, usableUnit, usable}
-use Rattle.unit.specs.Clock.{timeOf, secondsOf, setAt, afterTime, atWrap, fractionSet, afterCode, afterTicks, timeCodeWritten}
+use Rattle.unit.specs.Clock.{timeOf, secondsOf, setAt, afterTime, nearestSecond, atWrap, fractionSet, afterCode, afterTicks, timeCodeWritten}
 use Rattle.unit.specs.Owner.{unowned, swapped}
 use Rattle.unit.specs.Act.{withClock, withOwner}
 use Rattle.unit.specs.Given.{Arrived, Lent}
@@ -33,6 +33,7 @@ use Rattle.unit.specs.declared.clock.Waiting.the-variants.{NoValue, Valu
 use Rattle.unit.specs.declared.owner.Owner.{Owner}
 use Rattle.unit.specs.declared.unit.Unit.{Unit as TheUnit}
 use Rattle.unit.proofs.UnitLaws.{SetUpAs}
+use Rattle.unit.proofs.ClockLaws.{nearest-is}
 use Rattle.unit.proofs.CommandLaws.{unit-is, small-is}
 
 -- ---- the causes, one by one
@@ -75,6 +76,9 @@ OwnerWorks o = (leb (o .path .count) 12 ≡ true) × (leb (o .link) 31 ≡ true)
 clock-works : (u : TheUnit) → usableUnit u ≡ true → ClockWorks (u .clock)
 clock-works u e = let w = works u e in (w .5, w .6, w .7)
 
+pub et-fits : (u : TheUnit) → usableUnit u ≡ true → u .clock .elapsed .value < 2 ^ 56
+et-fits u e = ltb-true (u .clock .elapsed .value) (2 ^ 56) (works u e .5)
+
 owner-works : (u : TheUnit) → usableUnit u ≡ true → OwnerWorks (u .owner)
 owner-works u e = let w = works u e in (w .8, w .9)
 
@@ -96,9 +100,11 @@ after-ticks : (c : Clock) (n : ℕ) → ClockWorks c → ClockWorks (afterTicks 
 unfolding afterTicks
 after-ticks c n k = (lt-ltb ((c .elapsed .value + n) % 2 ^ 56) (2 ^ 56) (omega arith), k .1, k .2)
 
-wrap-fits : (e : Elapsed) (w : Waiting) → fitsTime w ≡ true → ltb (atWrap e w .value) (2 ^ 56) ≡ true
-wrap-fits e (Value x) k = k
-wrap-fits e NoValue k = lt-ltb (timeOf ((secondsOf (e .value) + 1) % 2 ^ 32) 0) (2 ^ 56) (omega arith)
+wrap-fits : (e : Elapsed) (w : Waiting) → ltb (e .value) (2 ^ 56) ≡ true → fitsTime w ≡ true → ltb (atWrap e w .value) (2 ^ 56) ≡ true
+wrap-fits e (Value x) l k = k
+wrap-fits e NoValue l k =
+    let n = nearest-is (e .value) (ltb-true (e .value) (2 ^ 56) l) in
+    lt-ltb (nearestSecond (e .value)) (2 ^ 56) (omega (arith, n))
 
 -- the ways that a Time-Code can go: the wrap, the next one, any other
 pub code-is : (c : Clock) (v : ℕ) (P : Clock → Type 0)
@@ -119,7 +125,7 @@ after-code : (c : Clock) (v : ℕ) → v < 64 → ClockWorks c → ClockWorks (a
 after-code c v h k =
     let low : leb v 63 ≡ true = le-leb v 63 (omega arith) in
     let l = ltb-true (c .elapsed .value) (2 ^ 56) (k .0) in
-    code-is c v ClockWorks (wrap-fits (c .elapsed) (c .waiting) (k .1), refl, low)
+    code-is c v ClockWorks (wrap-fits (c .elapsed) (c .waiting) (k .0) (k .1), refl, low)
     (lt-ltb (timeOf (secondsOf (c .elapsed .value)) (v * 2 ^ 18)) (2 ^ 56) (omega (arith, l, h)), k .1, low) (k .0, k .1, low)
 
 set-at : (w : When) (c : Clock) (t : TheTime) → t .value < 2 ^ 56 → ClockWorks c → ClockWorks (setAt w c t)

@@ -1,7 +1,7 @@
 -- The time (document 01, 'Time'; 004).
 use mathlib.Core.Bool.{cond, _&&_}
 use Prim.Native.Nat.{ℕ, _+_, _*_, _/_, _%_, _^_}
-use lib.Dec.{eqb}
+use lib.Dec.{eqb, leb}
 use Rattle.packets.specs.declared.time.When.{When}
 use Rattle.packets.specs.declared.time.When.the-variants.{AtWrap, AtOnce}
 use Rattle.packets.specs.declared.time.Time.{Time}
@@ -13,6 +13,9 @@ use Rattle.unit.specs.declared.clock.Clock.{Clock}
 -- ET is seconds in 32 bits, fraction in 24.
 abbrev pub secondsOf : ℕ → ℕ
 secondsOf et = et / 2 ^ 24
+
+abbrev pub fractionOf : ℕ → ℕ
+fractionOf et = et % 2 ^ 24
 
 abbrev pub timeOf : ℕ → ℕ → ℕ
 timeOf seconds fraction = seconds * 2 ^ 24 + fraction
@@ -29,10 +32,15 @@ setAt AtWrap c t = record { last = c .last; elapsed = c .elapsed; waiting = Valu
 unfoldable pub afterTime : Clock → Time → Clock
 afterTime c t = setAt (t .when) c t
 
--- At the wrap of the Time-Code a waiting value becomes ET, else seconds go up by one (modulo 2^32) and the fraction is 0.
+-- If the fraction of ET is at least one half, seconds go up by one (modulo 2^32); otherwise seconds stay. The fraction is 0 in both. (Document 02, request 3;
+-- before it, seconds went up whatever the fraction.)
+unfoldable pub nearestSecond : ℕ → ℕ
+nearestSecond et = timeOf (cond (leb (2 ^ 23) (fractionOf et)) ((secondsOf et + 1) % 2 ^ 32) (secondsOf et)) 0
+
+-- At the wrap of the Time-Code a waiting value becomes ET, else ET goes to that second.
 abbrev pub atWrap : Elapsed → Waiting → Elapsed
 atWrap e (Value w) = w
-atWrap e NoValue = record { value = timeOf ((secondsOf (e .value) + 1) % 2 ^ 32) 0; epoch = e .epoch }
+atWrap e NoValue = record { value = nearestSecond (e .value); epoch = e .epoch }
 
 -- The top six fraction bits become v and the rest 0.
 abbrev pub fractionSet : Elapsed → ℕ → Elapsed

@@ -1,7 +1,7 @@
 // The time (document 01, 'Time'; 004).
 ghost use mathlib.Core.Path.{_≡_};
 ghost use Prim.Native.Nat.{_+_, _%_, _^_, _<_};
-ghost use Rattle.unit.specs.Clock.{timeCodeWritten, afterCode, afterTicks, afterTime, atWrap, fractionSet};
+ghost use Rattle.unit.specs.Clock.{timeCodeWritten, afterCode, afterTicks, afterTime, atWrap, fractionSet, nearestSecond};
 use packets::Time;
 use packets::When;
 
@@ -23,8 +23,10 @@ pub struct Clock {
     pub waiting: Waiting,
 }
 
-// In ticks of ET: a second, and a step of the Time-Code, 64 of which are a second. Then how many values ET has.
+// In ticks of ET: a second, half of one, and a step of the Time-Code, 64 of which are a second. Then how many values ET has.
 const SECOND: u64 = 0x100_0000;
+
+const HALF: u64 = 0x80_0000;
 
 const CODE: u64 = 0x4_0000;
 
@@ -83,17 +85,28 @@ pub(crate) fn take_code(clock: Clock, byte: u8) -> Clock
     }
 }
 
-// A value that waits becomes ET; else the next second begins.
+// A value that waits becomes ET; else ET goes to the nearest second.
 fn wrapped(elapsed: Elapsed, waiting: Waiting) -> Elapsed
     ensures { λ e. ⌜ e ≡ atWrap elapsed waiting ⌝ }
 {
     match waiting {
         Waiting::Value(value) => value,
         Waiting::NoValue => Elapsed {
-            value: (elapsed.value / SECOND + 1) % 0x1_0000_0000 * SECOND,
+            value: nearest_second(elapsed.value),
             epoch: elapsed.epoch,
         },
     }
+}
+
+// From its half on a second counts as over, be the oscillator slow; below it, the oscillator was fast and the second has begun by itself.
+fn nearest_second(et: u64) -> u64
+    ensures { λ n. ⌜ n ≡ nearestSecond et ⌝ }
+{
+    let seconds = et / SECOND;
+    if et % SECOND < HALF {
+        return seconds * SECOND;
+    }
+    (seconds + 1) % 0x1_0000_0000 * SECOND
 }
 
 // The top six bits of the fraction become v and the rest 0.

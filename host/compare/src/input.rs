@@ -27,8 +27,8 @@ pub trait Input: Clone + Display {
     /// How many lines are printed of the item.
     fn lines(&self) -> usize;
 
-    /// What came of it, from the first of these lines.
-    fn outcome(&self, line: &str) -> Option<Outcome>;
+    /// What came of the last of these items, each with the lines that were printed of it.
+    fn outcome(told: &[(&Self, Vec<&str>)]) -> Option<Outcome>;
 
     fn reachable() -> BTreeSet<Outcome>;
 
@@ -63,8 +63,10 @@ impl Input for Record {
         1
     }
 
-    fn outcome(&self, line: &str) -> Option<Outcome> {
-        match self {
+    fn outcome(told: &[(&Self, Vec<&str>)]) -> Option<Outcome> {
+        let (record, lines) = told.last()?;
+        let line = lines.first()?;
+        match record {
             Record::Packet { bytes, .. } => Outcome::packet(bytes, line),
             Record::TimeCode(_) => Outcome::time_code(line),
             Record::Ticks(_) => Outcome::ticks(line),
@@ -87,7 +89,7 @@ impl Input for Record {
 impl Input for Line {
     const NAMES: (&str, &str) = ("lines", "scripts");
     /// As many as `stories::script` has room for.
-    const SIZE: u64 = 1450;
+    const SIZE: u64 = 1550;
 
     fn row(seed: u64, index: u64) -> Vec<Self> {
         stories::script(seed, index)
@@ -113,11 +115,15 @@ impl Input for Line {
         }
     }
 
-    fn outcome(&self, line: &str) -> Option<Outcome> {
-        match self {
-            Line::Packet { bytes, .. } => Outcome::packet(bytes, line),
-            Line::TimeCode(_) => Outcome::time_code(line),
-            Line::Ticks(_) => Outcome::ticks(line),
+    fn outcome(told: &[(&Self, Vec<&str>)]) -> Option<Outcome> {
+        match told {
+            [.., (Line::Packet { bytes, .. }, lines)] => Outcome::packet(bytes, lines.first()?),
+            [.., (Line::TimeCode(_), lines)] => Outcome::time_code(lines.first()?),
+            [.., (Line::Ticks(_), lines)] => Outcome::ticks(lines.first()?),
+            // The clock is the second line of what a unit holds.
+            [.., (Line::Holds, before), (Line::TimeCode(_), _), (Line::Holds, behind)] => {
+                Outcome::wrap(before.get(1)?, behind.get(1)?)
+            }
             _ => None,
         }
     }

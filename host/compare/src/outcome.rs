@@ -1,6 +1,7 @@
 //! What can come of a packet, a Time-Code, ticks or a bad record, and what came of those that ran.
 //!
-//! The outcome of a packet is its protocol and kind, as its bytes show them, with the fate and the status that were printed.
+//! The outcome of a packet is its protocol and kind, as its bytes show them, with the fate and the status that were printed. A wrap of
+//! the Time-Codes, where the unit was shown before it and behind it, has one more: what it found, and what became of the time.
 //! `of_bench` and `of_units` say from document 01 which there are; what a run reaches has to be all of them, and no other.
 use std::collections::BTreeSet;
 use std::fmt;
@@ -13,6 +14,29 @@ pub enum Outcome {
     Ticks(u8),
     /// With the kind of the record, where the flaw goes with one, else 0.
     Bad(Flaw, u8),
+    /// A wrap of the Time-Codes: the fraction it found, whether that was in the last second of all, and what became of ET.
+    Wrap(Fraction, bool, Became),
+}
+
+/// A fraction of ET.
+#[derive(Clone, Copy, Debug, PartialEq, Eq, PartialOrd, Ord)]
+pub enum Fraction {
+    Less,
+    /// One tick less than a half.
+    TickLess,
+    Half,
+    More,
+}
+
+/// What became of ET.
+#[derive(Clone, Copy, Debug, PartialEq, Eq, PartialOrd, Ord)]
+pub enum Became {
+    /// The value that waited.
+    Waiting,
+    /// Its own second, with no fraction, or the next one.
+    Same,
+    Next,
+    Other,
 }
 
 #[derive(Clone, Copy, Debug, PartialEq, Eq, PartialOrd, Ord)]
@@ -67,6 +91,29 @@ impl Outcome {
             Flaw::Link | Flaw::End | Flaw::Length | Flaw::CutBody => *record.get(2)?,
         };
         Some(Outcome::Bad(flaw, kind))
+    }
+
+    /// From the clock of a unit, as shown before a Time-Code and behind it: the last Time-Code, ET and what waits, each with its epoch.
+    pub fn wrap(before: &str, behind: &str) -> Option<Self> {
+        let (elapsed, rest) = before.strip_prefix(" clock 3f ")?.split_once(' ')?;
+        let (epoch, waiting) = rest.split_once(' ')?;
+        let now = behind.strip_prefix(" clock 00 ")?.strip_suffix(" none");
+        let elapsed = u64::from_str_radix(elapsed, 16).ok()?;
+        let second = elapsed >> 24;
+        let fraction = match elapsed & 0xFF_FFFF {
+            ..0x7F_FFFF => Fraction::Less,
+            0x7F_FFFF => Fraction::TickLess,
+            0x80_0000 => Fraction::Half,
+            _ => Fraction::More,
+        };
+        let full = |second: u64| format!("{:014x} {epoch}", (second % (1 << 32)) << 24);
+        let became = match (waiting, now) {
+            ("none", Some(now)) if now == full(second) => Became::Same,
+            ("none", Some(now)) if now == full(second + 1) => Became::Next,
+            (value, Some(now)) if now == value => Became::Waiting,
+            _ => Became::Other,
+        };
+        Some(Outcome::Wrap(fraction, second == 0xFFFF_FFFF, became))
     }
 }
 
@@ -149,7 +196,8 @@ pub fn of_bench() -> BTreeSet<Outcome> {
     all
 }
 
-/// All outcomes of units of every kind: any call may find its unit unusable, and any reply its buffer too short.
+/// All outcomes of units of every kind: any call may find its unit unusable, and any reply its buffer too short. What comes of a wrap
+/// shows here alone, since the bench does not print its time.
 pub fn of_units() -> BTreeSet<Outcome> {
     let mut all = of_packets();
     all.extend([0, 1].map(Outcome::TimeCode));
@@ -161,8 +209,21 @@ pub fn of_units() -> BTreeSet<Outcome> {
         let replying = (0..16).filter(|code| wants_reply(*code));
         all.extend(replying.map(|code| Outcome::Packet(protocol, Kind::Code(code), 3, None)));
     }
+    for last in [false, true] {
+        for (fraction, became) in WRAPS {
+            all.extend([became, Became::Waiting].map(|became| Outcome::Wrap(fraction, last, became)));
+        }
+    }
     all
 }
+
+/// What becomes of ET at a wrap where no value waits (document 01, 'Time', as changed by request 3 of document 02).
+const WRAPS: [(Fraction, Became); 4] = [
+    (Fraction::Less, Became::Same),
+    (Fraction::TickLess, Became::Same),
+    (Fraction::Half, Became::Next),
+    (Fraction::More, Became::Next),
+];
 
 /// The statuses of a command (document 01, 'Reading a packet' and 'Fields').
 fn statuses(protocol: Protocol, code: u8) -> &'static [u8] {
@@ -215,10 +276,11 @@ mod tests {
     }
 
     /// Unusable: four without an instruction, and for each of two protocols three without a code and sixteen with one. A reply too long:
-    /// for each, an unused type and the eight codes that want one. Time-Code and ticks, taken or not.
+    /// for each, an unused type and the eight codes that want one. Time-Code and ticks, taken or not. Wraps: four fractions, in the last
+    /// second or another, with a value that waits or none.
     #[test]
     fn of_units_as_counted_by_hand() {
-        assert_eq!(of_units().len(), PACKETS + 4 + 2 * 19 + 2 * 9 + 4);
+        assert_eq!(of_units().len(), PACKETS + 4 + 2 * 19 + 2 * 9 + 4 + 4 * 2 * 2);
     }
 
     #[test]
@@ -228,5 +290,28 @@ mod tests {
         let short = Outcome::packet(&[0xFE], "packet: 11 - 0 buffer 00:");
         assert_eq!(short, Some(Outcome::Packet(Protocol::None, Kind::None, 11, None)));
         assert_eq!(Outcome::packet(&[], "bad 7"), None);
+    }
+
+    #[test]
+    fn a_wrap_is_read() {
+        use {Became::*, Fraction::*};
+        let wrap = |before: &str, behind: &str| Outcome::wrap(&format!(" clock {before}"), &format!(" clock {behind}"));
+        let cases = [
+            ("3f 00000007800000 9f none", "00 00000008000000 9f none", Half, false, Next),
+            ("3f 000000077fffff 9f none", "00 00000007000000 9f none", TickLess, false, Same),
+            ("3f 000000077ffffe 9f none", "00 00000008000000 9f none", Less, false, Next),
+            ("3f ffffffff800001 9f none", "00 00000000000000 9f none", More, true, Next),
+            ("3f ffffffff000000 af none", "00 ffffffff000000 af none", Less, true, Same),
+            ("3f 00000007800000 9f 00000009000001 af", "00 00000009000001 af none", Half, false, Waiting),
+            // The fraction or the epoch is another, or the value still waits.
+            ("3f 00000007000001 9f none", "00 00000007000001 9f none", Less, false, Other),
+            ("3f 00000007000001 9f none", "00 00000007000000 af none", Less, false, Other),
+            ("3f 00000007000001 9f 00000009000001 af", "00 00000007000000 9f 00000009000001 af", Less, false, Other),
+        ];
+        for (before, behind, fraction, last, became) in cases {
+            assert_eq!(wrap(before, behind), Some(Outcome::Wrap(fraction, last, became)), "{before}");
+        }
+        assert_eq!(wrap("3e 00000007800000 9f none", "00 00000007800000 9f none"), None);
+        assert_eq!(wrap("3f 00000007800000 9f none", "3f 00000007800000 9f none"), None);
     }
 }

@@ -63,9 +63,10 @@ impl Tally {
         self.items += row.len() as u64;
         let text = String::from_utf8_lossy(printed);
         let mut lines = text.lines();
+        let mut told = Vec::new();
         for item in row {
-            let own: Vec<&str> = lines.by_ref().take(item.lines()).collect();
-            if let Some(outcome) = own.first().and_then(|line| item.outcome(line)) {
+            told.push((item, lines.by_ref().take(item.lines()).collect()));
+            if let Some(outcome) = T::outcome(&told) {
                 *self.reached.entry(outcome).or_default() += 1;
             }
         }
@@ -84,5 +85,36 @@ impl<T: Input> fmt::Display for Failure<T> {
     fn fmt(&self, f: &mut fmt::Formatter<'_>) -> fmt::Result {
         writeln!(f, "program and model differ on row {} of seed {}", self.index, self.seed)?;
         write!(f, "{}", self.difference)
+    }
+}
+
+#[cfg(test)]
+mod tests {
+    use super::*;
+    use stories::Line;
+
+    /// What the model prints of scripts, counted.
+    fn tally(rows: impl Iterator<Item = Vec<Line>>) -> Tally {
+        let mut tally = Tally::default();
+        rows.for_each(|row| tally.add(&row, &Line::expected(&row)));
+        tally
+    }
+
+    fn rows(lines: u64) -> impl Iterator<Item = Vec<Line>> {
+        (0..lines.div_ceil(Line::SIZE)).map(|index| Line::row(1, index))
+    }
+
+    /// As many lines as host/check runs, of the same seed.
+    #[test]
+    fn scripts_reach_every_outcome() {
+        assert_eq!(tally(rows(150_000)).gaps::<Line>(), (vec![], vec![]));
+    }
+
+    /// Where nothing shows the time, no wrap is taken for reached.
+    #[test]
+    fn a_wrap_that_is_not_shown_is_missed() {
+        let blind = |row: Vec<Line>| row.into_iter().filter(|line| *line != Line::Holds).collect();
+        let (missed, _) = tally(rows(20_000).map(blind)).gaps::<Line>();
+        assert_eq!(missed.iter().filter(|outcome| matches!(outcome, Outcome::Wrap(..))).count(), 16);
     }
 }

@@ -131,9 +131,11 @@ fn say(out: &mut String, what: std::fmt::Arguments) {
 #[cfg(test)]
 mod tests {
     use super::*;
+    use crate::shortest::shortest;
 
     /// Worked out by hand from document 01: three bytes are an instruction with no header behind it (11); a write of 5A to address 1 that
-    /// wants no reply is obeyed (18); at the wrap with nothing waiting the seconds go up and the fraction is 0.
+    /// wants no reply is obeyed (18). Nothing waits at the wraps, which leave no fraction: with exactly one half the seconds go up, with a
+    /// tick less they stay.
     #[test]
     fn a_script() {
         let packet = |bytes: &[u8]| Line::Packet { link: 1, room: 2, eep: false, bytes: bytes.to_vec() };
@@ -149,18 +151,96 @@ mod tests {
             Line::TimeCode(0x40),
             Line::Memory { at: 1, count: 9 },
             Line::Holds,
+            Line::Ticks(0x7FFFFF),
+            Line::TimeCode(63),
+            Line::TimeCode(0),
+            Line::Holds,
         ];
         let all = crc(&[0, 0x5A, 0, 0]);
         let buffer = crc(&[0xEE, 0xEE]);
+        // Twice the same: from 7 and a half up to 8, and from 8 and almost a half down to it.
+        let unit = "unit: owner 00000000 00 00 path 0: 00 00 00 00 00 00 00 00 00 00 00 00\n \
+             clock 00 00000008000000 00 none\n \
+             counts 0 4294967295 4294967295 4294967295 4294967295 4294967295 4294967295 0 4294967295 4294967295 1\n";
         let expected = format!(
             "packet: 11 - 0 buffer {buffer:02x}:\n\
              packet: 18 00 0 buffer {buffer:02x}:\n\
              code: 0 -\n\
              memory: all {all:02x}: 5a 00 00\n\
-             unit: owner 00000000 00 00 path 0: 00 00 00 00 00 00 00 00 00 00 00 00\n \
-             clock 00 00000008000000 00 none\n \
-             counts 0 4294967295 4294967295 4294967295 4294967295 4294967295 4294967295 0 4294967295 4294967295 1\n"
+             {unit}\
+             ticks: 0 -\n\
+             code: 0 -\n\
+             code: 0 -\n\
+             {unit}"
         );
         assert_eq!(String::from_utf8(printed(&lines)).as_deref(), Ok(&expected[..]));
+    }
+
+    const SECOND: u64 = 1 << 24;
+    const HALF: u64 = SECOND / 2;
+    const END: u64 = 1 << 56;
+
+    /// The second of a time with no fraction, or the next one.
+    fn full(t: u64, next: bool) -> u64 {
+        (t - t % SECOND + if next { SECOND } else { 0 }) % END
+    }
+
+    /// Wrong rules for the wrap with nothing waiting: what they make of ET.
+    const RULES: [(&str, fn(u64) -> u64); 8] = [
+        ("seconds always go up, as they did before request 3", |t| full(t, true)),
+        ("they never do", |t| full(t, false)),
+        ("only above one half", |t| full(t, t % SECOND > HALF)),
+        ("a tick before it", |t| full(t, t % SECOND >= HALF - 1)),
+        ("by lower bits too", |t| full(t, t % SECOND >= HALF || t % 0x1_0000 >= 0x8000)),
+        ("the fraction stays below it", |t| if t % SECOND < HALF { t } else { full(t, true) }),
+        ("the last second stays", |t| full(t, t % SECOND >= HALF && t < END - SECOND)),
+        ("the first does not follow it", |t| t - t % SECOND + if t % SECOND >= HALF { SECOND } else { 0 }),
+    ];
+
+    /// The fewest lines of a seed's scripts that print something else where `slip` comes behind each wrap. It is given the unit before
+    /// the wrap and the unit behind it.
+    fn shown(slip: impl Fn(&Unit, &mut Unit)) -> Vec<Line> {
+        let slipped = |lines: &[Line]| {
+            let mut desk = Desk::fresh(0);
+            let mut out = String::new();
+            for line in lines {
+                let before = desk.unit.clone();
+                desk.run(line, &mut out);
+                if matches!(line, Line::TimeCode(_)) && (before.last_time_code, desk.unit.last_time_code) == (63, 0) {
+                    slip(&before, &mut desk.unit);
+                }
+            }
+            out.into_bytes()
+        };
+        let differs = |lines: &[Line]| slipped(lines) != printed(lines);
+        let row =
+            (0..20).map(|index| stories::script(7, index)).find(|row| differs(row)).expect("the slip was not found");
+        shortest(&row, differs)
+    }
+
+    /// Each shows by a Time-Code and what the unit holds then, and few lines in front.
+    #[test]
+    fn wrong_wraps() {
+        for (name, rule) in RULES {
+            let lines = shown(|before, unit| {
+                if before.waiting.is_none() {
+                    unit.elapsed.t = rule(before.elapsed.t);
+                }
+            });
+            assert!(matches!(lines[..], [.., Line::TimeCode(_), Line::Holds]) && lines.len() < 8, "{name}: {lines:?}");
+        }
+    }
+
+    /// A value that waits does not win: below one half, or from one half on.
+    #[test]
+    fn a_waiting_value_that_loses() {
+        for half in [false, true] {
+            let lines = shown(|before, unit| {
+                if before.waiting.is_some() && half == (before.elapsed.t % SECOND >= HALF) {
+                    unit.elapsed = Time { t: full(before.elapsed.t, half), ..before.elapsed };
+                }
+            });
+            assert!(matches!(lines[..], [.., Line::TimeCode(_), Line::Holds]) && lines.len() < 8, "{half}: {lines:?}");
+        }
     }
 }

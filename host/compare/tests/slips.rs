@@ -1,4 +1,5 @@
-//! Programs that are the model with one slip: the comparison finds each, and shows it by a log that cannot be shorter.
+//! Programs that are the model with one slip: the comparison finds each, and shows it by a log that cannot be shorter. Slips at the wrap of
+//! the Time-Codes show in no log; the tests of `units` try them.
 use compare::difference::Printed;
 use compare::run::{Tally, run};
 use std::sync::atomic::{AtomicBool, Ordering};

@@ -1,4 +1,4 @@
-//! The time receiver (document 01, Time; 004).
+//! The time receiver (document 01, Time, with request 3 of document 02; 004).
 
 use crate::answer::{End, fate};
 use crate::crc::crc;
@@ -40,9 +40,11 @@ impl Unit {
         let last = self.last_time_code;
         let seconds = self.elapsed.t / SECOND * SECOND;
         if last == 63 && new == 0 {
+            // Document 01, Time, as changed by request 3 of document 02.
             match self.waiting.take() {
                 Some(time) => self.elapsed = time,
-                None => self.elapsed.t = (seconds + SECOND) % TIME_BOUND,
+                None if self.elapsed.t - seconds >= SECOND / 2 => self.elapsed.t = (seconds + SECOND) % TIME_BOUND,
+                None => self.elapsed.t = seconds,
             }
         } else if new == last + 1 {
             self.elapsed.t = seconds + u64::from(new) * (SECOND / 64);

@@ -6,6 +6,7 @@ use crate::fields::DIVIDERS;
 use crate::ground::Ground;
 use crate::record::Record;
 use crate::story::Story;
+use crate::time::FRACTIONS;
 use std::fmt;
 
 /// The most that the program lends, as memory or as reply buffer, and takes as a packet.
@@ -94,6 +95,10 @@ fn scene(chance: &mut Chance) -> Vec<Line> {
         lines.push(spoilt(memory, chance));
     }
     let mut story = Story::new(Chance::new(chance.next(), 0), ground);
+    // Where the last Time-Code was set to 63, this is the wrap, and it finds ET as it was set.
+    if chance.one_in(2) {
+        story.records.push(Record::TimeCode(0));
+    }
     if chance.one_in(2) {
         story.claim();
     }
@@ -102,6 +107,8 @@ fn scene(chance: &mut Chance) -> Vec<Line> {
     }
     for record in story.records {
         match record {
+            // Nothing else tells what a wrap finds and what it leaves.
+            Record::TimeCode(code) if code & 63 == 0 => lines.extend([Line::Holds, Line::TimeCode(code), Line::Holds]),
             Record::TimeCode(code) => lines.push(Line::TimeCode(code)),
             Record::Ticks(ticks) => lines.push(Line::Ticks(ticks)),
             Record::Packet { link, eep, bytes } if bytes.len() <= PACKET => {
@@ -133,7 +140,7 @@ fn set_up(memory: usize, lines: &mut Vec<Line>, chance: &mut Chance) -> Ground {
     }
     set(RateRange, (chance.pick(&DIVIDERS) << 16 | chance.pick(&DIVIDERS)).into());
     set(Counters, chance.pick(&[0, 1, u32::MAX, u32::MAX - 1, u32::MAX - 7]).into());
-    set(LastTimeCode, chance.pick(&[0, 1, 62, 63]));
+    set(LastTimeCode, chance.pick(&[0, 1, 62, 63, 63]));
     set(Elapsed, about_the_end(chance));
     if chance.one_in(2) {
         set(Waiting, about_the_end(chance));
@@ -159,10 +166,12 @@ fn set_up(memory: usize, lines: &mut Vec<Line>, chance: &mut Chance) -> Ground {
     Ground { edges, reply: ROOM as u32, links, time }
 }
 
-/// A time of 56 bits, often just before a second, or all of it, is over.
+/// A time of 56 bits, often just before a second, half of one, or all of it, is over.
 fn about_the_end(chance: &mut Chance) -> u64 {
     let any = chance.next() >> 8;
-    chance.pick(&[any, any | 0xFF_FFFF, (1 << 56) - 1, (1 << 56) - 2, 0, any | 0xFFFF_FFFF << 24])
+    let (end, last) = (1 << 56, 0xFFFF_FFFF << 24);
+    let turning = chance.pick(&[any & last, last]) | u64::from(chance.pick(&FRACTIONS));
+    chance.pick(&[any, any | 0xFF_FFFF, end - 1, end - 2, 0, any | last, turning, turning])
 }
 
 /// One of the things that make a unit unusable, or one that is only about to.

@@ -52,7 +52,11 @@ impl Story {
                 let link = link(&self.ground, chance);
                 self.records.push(time::packet(self.ground.time, link, whole, chance));
             }
-            28 => time::codes(&mut self.code, &mut self.records, chance),
+            28 => match chance.below(6) {
+                0 | 1 => time::wrap(self.ground.time, self.senders[0].link, &mut self.code, &mut self.records, chance),
+                2 => time::oscillator(&mut self.code, &mut self.records, chance),
+                _ => time::codes(&mut self.code, &mut self.records, chance),
+            },
             29 => self.records.push(time::ticks(chance)),
             _ => self.records.push(noise(&self.ground, chance)),
         }

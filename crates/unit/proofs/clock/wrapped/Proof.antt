@@ -1,8 +1,4 @@
--- `unit::clock::wrapped` meets its contract: a waiting value, or the next second.
-use Rattle.unit.specs.declared.clock.Elapsed.{Elapsed}
-use native.Mathlib.Nat.{add-zero}
-use mathlib.Core.Path.{ap, sym}
-use Prim.Native.Nat.{ℕ}
+-- `unit::clock::wrapped` meets its contract: a waiting value, or the nearest second.
 use borrow.Author.Needs.{needs}
 use Rattle.unit.proofs.clock.wrapped.Statement.{statement}
 use Rattle.unit.proofs.clock.wrapped.Tie as tie
@@ -13,19 +9,14 @@ enum-known-waiting c = search needs
 enum-told : tie.Need-enum-told
 enum-told c = search needs
 
-add-t6 : tie.Need-add-t6
-add-t6 c = search needs
-
-mul-t8 : tie.Need-mul-t8
-mul-t8 c = search needs
+nearest-second-requires : tie.Need-nearest-second-requires
+nearest-second-requires c κs = search needs
 
 returns : tie.Need-returns
 returns c = search needs
 
 returns-2 : tie.Need-returns-2
-returns-2 c =
-    rw (c .before .enum-told .given .1)
-    (ap {B = Elapsed} (λ (v : ℕ). record { value = v; epoch = c .before .before .before .args .elapsed .epoch }) (sym (add-zero _)))
+returns-2 c = rw (c .before .enum-told .given .1, c .nearest-second .ensures)
 
 pub wrapped-spec : {M : Type 1} → statement M
-wrapped-spec = tie.close (tie.spec enum-known-waiting enum-told add-t6 mul-t8 returns returns-2)
+wrapped-spec = tie.close (tie.spec enum-known-waiting enum-told nearest-second-requires returns returns-2)
