@@ -31,7 +31,7 @@ abbrev lost : List Call
 lost = ticks (2 ^ 24 + 1) ∷ timeCode 63 ∷ []
 
 -- the same, where so many of them come, from v on; and ticks for a part of 64 and one more in front of each, and behind the last
-abbrev come : ℕ → ℕ → List Call
+come : ℕ → ℕ → List Call
 come zero v = ticks (2 ^ 18 + 1) ∷ []
 come (suc k) v = ticks (2 ^ 18 + 1) ∷ timeCode v ∷ come k (v + 1)
 
@@ -76,6 +76,7 @@ module _ (t : Terminal) (same : (u : TheUnit) (n : ℕ) → t .ticks u n .unit �
       (next v (s * 2 ^ 24 + v * 2 ^ 18 + more) h (omega (arith, low, h)) ∙ ap (at (v + 1)) (omega (arith, low, h)))
 
   in-order : (k s v : ℕ) → s < 2 ^ 31 → v + k ≡ 63 → InOrder t 0 (on s v) (come k (v + 1))
+  unfolding come
   in-order zero s v low h = omega arith
   in-order (suc k) s v low h = (
     omega arith,
@@ -85,7 +86,7 @@ module _ (t : Terminal) (same : (u : TheUnit) (n : ℕ) → t .ticks u n .unit �
 
   -- at the next wrap the second has passed by itself
   passed : (k s v : ℕ) → s < 2 ^ 31 → v + k ≡ 63 → after t (on s v) (come k (v + 1)) ≡ at 63 ((s + 1) * 2 ^ 24 + 1)
-  unfolding after
+  unfolding after come
   passed zero s v low h = ran s v low (omega (arith, h)) ∙ λ i. at (e i) (g i)
     where
       e : v ≡ 63
@@ -97,6 +98,7 @@ module _ (t : Terminal) (same : (u : TheUnit) (n : ℕ) → t .ticks u n .unit �
       ap (λ (u : TheUnit). after t u (come k (v + 1 + 1))) (came s v low (omega (arith, h))) ∙ passed k s (v + 1) low (omega (arith, h))
 
 of-bytes : (k v : ℕ) → Every OfBytes (come k v)
+unfolding come
 of-bytes zero v = (tt, tt)
 of-bytes (suc k) v = (tt, (tt, of-bytes k (v + 1)))
 
