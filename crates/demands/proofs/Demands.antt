@@ -11,7 +11,7 @@ use Rattle.demands.proofs.RepliesHold.{replies}
 use Rattle.demands.proofs.ListsHold.{merges}
 use Rattle.demands.proofs.CountsHold.{counters-are-history, low-count-nothing}
 use Rattle.demands.proofs.NamesHold.{rows-kept, missing-refused, missing-is-f1, obeyed-in-window}
-use Rattle.demands.proofs.SecondsHold.{wrap-moves-half, one-is-nearest, ticks-are-seconds, one-second, one-second-in-order}
+use Rattle.demands.proofs.SecondsHold.{others-leave-time, wrap-moves-half, one-is-nearest, ticks-are-seconds, one-second, one-second-in-order}
 use Rattle.demands.proofs.SecondsShown.{some-turn}
 
 pub demand-1 : Demand1 ours
@@ -30,4 +30,4 @@ pub names-kept : NamesKept ours
 names-kept = (rows-kept, missing-refused, missing-is-f1, obeyed-in-window)
 
 pub seconds-kept : SecondsKept ours
-seconds-kept = (wrap-moves-half, one-is-nearest, ticks-are-seconds, one-second, one-second-in-order, some-turn)
+seconds-kept = (others-leave-time, wrap-moves-half, one-is-nearest, ticks-are-seconds, one-second, one-second-in-order, some-turn)

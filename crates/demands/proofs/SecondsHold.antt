@@ -13,14 +13,16 @@ use Rattle.unit.specs.Clock.{secondsOf, timeOf, nearestSecond, afterCode, after
 use Rattle.unit.specs.Act.{withClock}
 use Rattle.unit.specs.Calls.{takePacket, takeTimeCode, takeTicks}
 use Rattle.unit.specs.declared.clock.Clock.{Clock}
+use Rattle.unit.specs.declared.clock.Elapsed.{Elapsed}
 use Rattle.unit.specs.declared.clock.Waiting.{Waiting}
 use Rattle.unit.specs.declared.clock.Waiting.the-variants.{NoValue}
 use Rattle.unit.specs.declared.unit.Unit.{Unit as TheUnit}
 use Rattle.unit.proofs.ClockLaws.{Shows, nearest-is, nearest-near, nearest-after, ticks-add, code-wraps, code-next, code-other}
+use Rattle.unit.proofs.CommandLaws.{time-stays}
 use Rattle.unit.proofs.UsableLaws.{et-fits, usable-packet, usable-code, usable-ticks}
 use Rattle.demands.specs.Terminal.{ours, Call, packet, timeCode, ticks, after, Every}
 use Rattle.demands.specs.Bounds.{OfBytes}
-use Rattle.demands.specs.Seconds.{etOf, Wraps, WrapsAlone, ahead, Nearest, WrapMovesHalf, OneIsNearest, begun, Turns, GoesUp, ticksIn, OnlyTicks, TicksAreSeconds, OneSecond, InOrder, OneSecondInOrder}
+use Rattle.demands.specs.Seconds.{etOf, OthersLeaveTime, Wraps, WrapsAlone, ahead, Nearest, WrapMovesHalf, OneIsNearest, begun, Turns, GoesUp, ticksIn, OnlyTicks, TicksAreSeconds, OneSecond, InOrder, OneSecondInOrder}
 
 -- the parts of a clock
 abbrev value : Clock → ℕ
@@ -40,6 +42,9 @@ code-clock u byte works = rw works
 ticks-clock : (u : TheUnit) (n : ℕ) → usableUnit u ≡ true → takeTicks u n .unit .clock ≡ afterTicks (u .clock) n
 unfolding takeTicks
 ticks-clock u n works = rw works
+
+pub others-leave-time : OthersLeaveTime ours
+others-leave-time = time-stays
 
 -- ---- a wrap
 
@@ -72,7 +77,8 @@ unfolding after ticksIn
 only-ticks u [] works b h = let fits = et-fits u works in (omega (arith, fits), refl)
 only-ticks u (packet p lent ∷ cs) works b h =
     let rest = only-ticks (takePacket u p lent .answer .unit) cs (usable-packet u p lent (b .0) ∙ works) (b .1) (h .1) in
-    (rest .0 ∙ rw (ap value (h .0)), rest .1 ∙ ap held (h .0))
+    let stays = time-stays u p lent (h .0) in
+    (rest .0 ∙ rw (ap (λ (e : Elapsed). e .value) (stays .0)), rest .1 ∙ stays .1)
 only-ticks u (timeCode byte ∷ cs) works b h =
     let rest = only-ticks (takeTimeCode u byte .unit) cs (usable-code u byte ∙ works) (b .1) (h .2) in
     let e = code-clock u byte works in
@@ -93,9 +99,11 @@ in-order : (s n : ℕ) (u : TheUnit) (cs : List Call) → s < 2 ^ 32 → usableU
 unfolding after
 in-order s n u [] low works b stands h = ((n, h, stands), refl)
 in-order s n u (packet p lent ∷ cs) low works b stands h =
-    let same : Stands s n (takePacket u p lent .answer .unit .clock) = rw (h .0) stands in
-    let rest = in-order s n (takePacket u p lent .answer .unit) cs low (usable-packet u p lent (b .0) ∙ works) (b .1) same (h .1) in
-    (rest .0, rest .1 ∙ ap held (h .0))
+    let v = takePacket u p lent .answer .unit in
+    let stays = time-stays u p lent (h .0) in
+    let same : Stands s n (v .clock) = omega (arith, stands, ap (λ (e : Elapsed). e .value) (stays .0), h .1) in
+    let rest = in-order s n v cs low (usable-packet u p lent (b .0) ∙ works) (b .1) same (h .2) in
+    (rest .0, rest .1 ∙ stays .1)
 in-order s n u (timeCode byte ∷ cs) low works b stands h =
     let v = takeTimeCode u byte .unit in
     let e = code-clock u byte works ∙ ap (afterCode (u .clock)) (h .1) in

@@ -8,7 +8,7 @@ use Rattle.demands.specs.Meaning.{ByteByByte, OnlyStoresChange, RefusedC
 use Rattle.demands.specs.Lists.{Merges}
 use Rattle.demands.specs.Counts.{CountersAreHistory, LowCountNothing}
 use Rattle.demands.specs.Names.{RowsKept, MissingRefused, MissingIsF1, ObeyedInWindow}
-use Rattle.demands.specs.Seconds.{WrapMovesHalf, OneIsNearest, TicksAreSeconds, OneSecond, OneSecondInOrder, SomeTurn}
+use Rattle.demands.specs.Seconds.{OthersLeaveTime, WrapMovesHalf, OneIsNearest, TicksAreSeconds, OneSecond, OneSecondInOrder, SomeTurn}
 
 -- 1. Any packet, any end marker, any lent memory: the terminal answers, never strays, always comes back; every refusal has its number, its
 -- reply and a fixed effect on memory, unit and reply buffer. (It checks for itself: `OctetsAskNothing`, `PacketsAskNothing`, `UnitAsksNothing`, in Outcomes.)
@@ -32,4 +32,4 @@ abbrev pub NamesKept : Terminal → Type 0
 NamesKept t = RowsKept × MissingRefused t × MissingIsF1 t × ObeyedInWindow t
 
 abbrev pub SecondsKept : Terminal → Type 0
-SecondsKept t = WrapMovesHalf t × OneIsNearest × TicksAreSeconds t × OneSecond t × OneSecondInOrder t × SomeTurn t
+SecondsKept t = OthersLeaveTime t × WrapMovesHalf t × OneIsNearest × TicksAreSeconds t × OneSecond t × OneSecondInOrder t × SomeTurn t

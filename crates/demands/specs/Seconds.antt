@@ -5,8 +5,10 @@ use mathlib.Core.Bool.{true}
 use mathlib.Core.Logic.{_⊎_, _≢_}
 use mathlib.Core.List.{List, [], _∷_}
 use Prim.Native.Nat.{ℕ, _+_, _-_, _/_, _%_, _^_, _<_, _≤_}
+use Rattle.unit.specs.Fate.{fateNumber}
 use Rattle.unit.specs.Usable.{usableUnit}
 use Rattle.unit.specs.Clock.{secondsOf, fractionOf, timeOf}
+use Rattle.unit.specs.Given.{Arrived, Lent}
 use Rattle.unit.specs.declared.clock.Waiting.the-variants.{NoValue}
 use Rattle.unit.specs.declared.unit.Unit.{Unit as TheUnit}
 use Rattle.demands.specs.Terminal.{Terminal, Call, packet, timeCode, ticks, after, Every}
@@ -16,14 +18,24 @@ use Rattle.demands.specs.Bounds.{OfBytes}
 abbrev pub etOf : TheUnit → ℕ
 etOf u = u .clock .elapsed .value
 
+-- The packet is no time packet that is taken: it has another fate than 19.
+abbrev pub NotTaken : Terminal → TheUnit → Arrived → Lent → Type 0
+NotTaken t u p lent = fateNumber (t .packet u p lent .answer .fate) ≢ 19
+
+-- Then it leaves ET, with its epoch code, and what waits.
+abbrev pub OthersLeaveTime : Terminal → Type 0
+OthersLeaveTime t =
+    (u : TheUnit) (p : Arrived) (lent : Lent) → NotTaken t u p lent
+    → (t .packet u p lent .answer .unit .clock .elapsed ≡ u .clock .elapsed) × (t .packet u p lent .answer .unit .clock .waiting ≡ u .clock .waiting)
+
+-- ---- a wrap
+
 -- Time-Code 0 behind 63; and that to a usable unit in which no value waits.
 abbrev pub Wraps : TheUnit → ℕ → Type 0
 Wraps u byte = (u .clock .last ≡ 63) × (byte % 2 ^ 6 ≡ 0)
 
 abbrev pub WrapsAlone : TheUnit → ℕ → Type 0
 WrapsAlone u byte = (usableUnit u ≡ true) × (u .clock .waiting ≡ NoValue) × Wraps u byte
-
--- ---- a wrap
 
 -- How far ET is ahead of an earlier one, modulo 2^56.
 abbrev pub ahead : ℕ → ℕ → ℕ
@@ -64,10 +76,10 @@ ticksIn (packet p lent ∷ cs) = ticksIn cs
 ticksIn (timeCode byte ∷ cs) = ticksIn cs
 ticksIn (ticks n ∷ cs) = n + ticksIn cs
 
--- Of the time, only ticks come: packets leave the clock, and a Time-Code is neither the next one nor a wrap. (One has to come, or there is no next wrap: 63.)
+-- Of the time, only ticks come: no time packet is taken, and a Time-Code is neither the next one nor a wrap. (63 has to come, or there is no next wrap.)
 abbrev pub OnlyTicks : Terminal → TheUnit → List Call → Type 0
 OnlyTicks t u [] = Unit
-OnlyTicks t u (packet p lent ∷ cs) = (t .packet u p lent .answer .unit .clock ≡ u .clock) × OnlyTicks t (t .packet u p lent .answer .unit) cs
+OnlyTicks t u (packet p lent ∷ cs) = NotTaken t u p lent × OnlyTicks t (t .packet u p lent .answer .unit) cs
 OnlyTicks t u (timeCode byte ∷ cs) =
     (u .clock .last ≡ 63 → byte % 2 ^ 6 ≢ 0) × (byte % 2 ^ 6 ≢ u .clock .last + 1) × OnlyTicks t (t .timeCode u byte .unit) cs
 OnlyTicks t u (ticks n ∷ cs) = OnlyTicks t (t .ticks u n .unit) cs
@@ -85,11 +97,12 @@ OneSecond t =
     → 2 ^ 23 ≤ ticksIn between → ticksIn between < 2 ^ 24 + 2 ^ 23
     → GoesUp 1 t u first between next
 
--- All Time-Codes come, in their order, which is what the link should bring; and between each two of them fewer than 2^19 ticks, where a right oscillator makes
--- 2^18. So many ticks, n, have come since the last. Packets leave the clock.
+-- All Time-Codes come, in their order, which is what the link should bring, and between each two of them fewer than 2^19 ticks, where a right oscillator makes
+-- 2^18; n have come since the last one. No time packet is taken, and nobody resets the Time-Code counter.
 abbrev pub InOrder : Terminal → ℕ → TheUnit → List Call → Type 0
 InOrder t n u [] = n < 2 ^ 19
-InOrder t n u (packet p lent ∷ cs) = (t .packet u p lent .answer .unit .clock ≡ u .clock) × InOrder t n (t .packet u p lent .answer .unit) cs
+InOrder t n u (packet p lent ∷ cs) =
+    NotTaken t u p lent × (t .packet u p lent .answer .unit .clock .last ≡ u .clock .last) × InOrder t n (t .packet u p lent .answer .unit) cs
 InOrder t n u (timeCode byte ∷ cs) = (n < 2 ^ 19) × (byte % 2 ^ 6 ≡ u .clock .last + 1) × InOrder t 0 (t .timeCode u byte .unit) cs
 InOrder t n u (ticks more ∷ cs) = InOrder t (n + more) (t .ticks u more .unit) cs
 

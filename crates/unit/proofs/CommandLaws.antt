@@ -2,6 +2,7 @@
 -- command changes memory.
 use mathlib.Core.Path.{_≡_, refl}
 use mathlib.Core.Bool.{Bool, true, false, cond}
+use mathlib.Core.Logic.{_≢_}
 use mathlib.Core.List.{List, []}
 use Prim.Native.Nat.{ℕ, _+_}
 use lib.Dec.{eqb}
@@ -23,7 +24,7 @@ use Rattle.packets.specs.declared.reading.Refusal.{Refusal}
 use Rattle.packets.specs.declared.time.Time.{Time as TheTime}
 use Rattle.packets.specs.declared.time.TimeReading.{TimeReading}
 use Rattle.packets.specs.declared.time.TimeReading.the-variants.{ThrownAway, Taken}
-use Rattle.unit.specs.Fate.{byteOf, isSuccess}
+use Rattle.unit.specs.Fate.{byteOf, isSuccess, fateNumber}
 use Rattle.unit.specs.Counters.{countedFor}
 use Rattle.unit.specs.Clock.{afterTime, timeCodeWritten}
 use Rattle.unit.specs.Owner.{swapped}
@@ -280,3 +281,32 @@ module _ (u : TheUnit) (p : Arrived) (lent : Lent) (Q : TheUnit → Type 0) (cou
       after h changes =
           field-changes u h path′ (p .packet) (p .link) (headerSize (h .instruction)) Q (isSuccess (dataStatusOf h p)) (kindIn h) same
           (λ new expected t k. changes .0 k new expected) (λ word t k. changes .1 k word)
+
+-- ---- the time after a packet: as it was, unless a time packet was taken (19)
+
+module _ (u : TheUnit) (p : Arrived) (lent : Lent) where
+  abbrev pub TimeStays : TheUnit → Type 0
+  TimeStays v = (v .clock .elapsed ≡ u .clock .elapsed) × (v .clock .waiting ≡ u .clock .waiting)
+
+  pub time-stays : fateNumber (takePacket u p lent .answer .fate) ≢ 19 → TimeStays (takePacket u p lent .answer .unit)
+  time-stays =
+      packet-is u p lent (λ o. fateNumber (o .answer .fate) ≢ 19 → TimeStays (o .answer .unit)) (λ e n. same) (λ e f n. same) (λ e f why g n. same) (λ e f g n. same)
+      (λ e f g t n. absurd (n refl))
+      (λ e f h g. command-is u h (path u p) p lent (λ o. fateNumber (o .answer .fate) ≢ 19 → TimeStays (o .answer .unit)) (λ n. same) (λ a. (λ w n. same, λ w n. same))
+      (λ q a. (λ w n. same, λ w n. same)) (λ q a. (λ w n. fields h, λ w n. fields h)))
+    where
+      same : TimeStays u
+      same = (refl, refl)
+
+      -- the Time-Code counter has the last Time-Code alone
+      written : (word : ℕ) → TimeStays (withClock u (timeCodeWritten (u .clock) word))
+      written word = go (eqb word 0)
+        where
+          go : (t : Bool) → TimeStays (withClock u (cond t (record { last = 0; elapsed = u .clock .elapsed; waiting = u .clock .waiting }) (u .clock)))
+          go true = (refl, refl)
+          go false = (refl, refl)
+
+      fields : (h : Header) → TimeStays (changed (fieldActionIn h p) u (h .initiator) (path u p) (p .link))
+      fields h =
+          field-changes u h (path u p) (p .packet) (p .link) (headerSize (h .instruction)) TimeStays (isSuccess (dataStatusOf h p)) (kindIn h) same
+          (λ new expected t k. same) (λ word t k. (written word, same))
