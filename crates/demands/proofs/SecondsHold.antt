@@ -1,16 +1,13 @@
 -- The wrap goes to the nearest second: `nearest-is` and its neighbours, which are arithmetic. Between two wraps ET is what it was and what came on top,
 -- by induction along the calls; and behind a whole second `nearest-after` says what the wrap makes of that.
-use mathlib.Core.Path.{_≡_, refl, sym, _∙_, ap}
+use mathlib.Core.Path.{_≡_, refl, _∙_, ap}
 use mathlib.Core.Bool.{true}
 use mathlib.Core.Logic.{_⊎_, inl, inr}
 use mathlib.Core.List.{List, [], _∷_}
 use Prim.Native.Nat.{ℕ, _+_, _*_, _/_, _%_, _^_, _<_, _≤_}
-use native.Mathlib.Nat.{add-zero}
 use native.Mathlib.Omega.{arith}
-use borrow.Author.Tests.{eq-eqb}
 use Rattle.unit.specs.Usable.{usableUnit}
-use Rattle.unit.specs.Clock.{secondsOf, timeOf, nearestSecond, afterCode, afterTicks}
-use Rattle.unit.specs.Act.{withClock}
+use Rattle.unit.specs.Clock.{nearestSecond, afterCode, afterTicks}
 use Rattle.unit.specs.Calls.{takePacket, takeTimeCode, takeTicks}
 use Rattle.unit.specs.declared.clock.Clock.{Clock}
 use Rattle.unit.specs.declared.clock.Elapsed.{Elapsed}
@@ -22,7 +19,7 @@ use Rattle.unit.proofs.CommandLaws.{time-stays}
 use Rattle.unit.proofs.UsableLaws.{et-fits, usable-packet, usable-code, usable-ticks}
 use Rattle.demands.specs.Terminal.{ours, Call, packet, timeCode, ticks, after, Every}
 use Rattle.demands.specs.Bounds.{OfBytes}
-use Rattle.demands.specs.Seconds.{etOf, OthersLeaveTime, Wraps, WrapsAlone, ahead, Nearest, WrapMovesHalf, OneIsNearest, begun, Turns, GoesUp, ticksIn, OnlyTicks, TicksAreSeconds, OneSecond, InOrder, OneSecondInOrder}
+use Rattle.demands.specs.Seconds.{etOf, OthersLeaveTime, WrapsAlone, ahead, WrapMovesHalf, OneIsNearest, begun, Turns, GoesUp, ticksIn, OnlyTicks, TicksAreSeconds, OneSecond, InOrder, OneSecondInOrder}
 
 -- the parts of a clock
 abbrev value : Clock → ℕ

@@ -1,6 +1,6 @@
 -- The terminal of before request 3 is shut out: wraps for which it gets a second ahead. Ours meets what is asked of the calls between these wraps too, so what is
 -- said of it is said of something.
-use mathlib.Core.Path.{_≡_, refl, sym, _∙_, ap}
+use mathlib.Core.Path.{_≡_, refl, _∙_, ap}
 use mathlib.Core.Bool.{true}
 use mathlib.Core.Logic.{_⊎_, inl, inr}
 use mathlib.Core.List.{List, [], _∷_}
@@ -13,7 +13,7 @@ use Rattle.unit.specs.Act.{withClock}
 use Rattle.unit.specs.Calls.{takeTimeCode, takeTicks}
 use Rattle.unit.specs.declared.clock.Waiting.the-variants.{NoValue}
 use Rattle.unit.specs.declared.unit.Unit.{Unit as TheUnit}
-use Rattle.demands.specs.Terminal.{Terminal, ours, Call, packet, timeCode, ticks, after, Every}
+use Rattle.demands.specs.Terminal.{Terminal, ours, Call, timeCode, ticks, after, Every}
 use Rattle.demands.specs.Bounds.{OfBytes}
 use Rattle.demands.specs.Seconds.{etOf, ahead, WrapMovesHalf, begun, turned, Turns, GoesUp, ticksIn, OnlyTicks, OneSecond, InOrder, OneSecondInOrder, SomeTurn}
 use Rattle.demands.specs.Impostors.{secondAhead}

@@ -98,7 +98,7 @@ fn wrapped(elapsed: Elapsed, waiting: Waiting) -> Elapsed
     }
 }
 
-// From its half on a second counts as over, be the oscillator slow; below it, the oscillator was fast and the second has begun by itself.
+// A second that is half over is taken to end with the wrap, since the oscillator is slow; one that is not, to begin with it, since the oscillator is fast.
 fn nearest_second(et: u64) -> u64
     ensures { λ n. ⌜ n ≡ nearestSecond et ⌝ }
 {
