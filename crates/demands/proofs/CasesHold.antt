@@ -40,5 +40,8 @@ wrap-cases = (
   λ u works last waits et. rw (works, last, waits, et),
   λ u works last waits et. rw (works, last, waits, et),
   λ u works last waits et. rw (works, last, waits, et),
+  λ u works last waits et. rw (works, last, waits, et),
+  λ u works last waits et. rw (works, last, waits, et),
+  λ u works last waits et. rw (works, last, waits, et),
   λ w. (λ u works last waits et. rw (works, last, waits), λ u works last waits et. rw (works, last, waits)),
 )

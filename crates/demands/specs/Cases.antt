@@ -58,24 +58,28 @@ HandCases =
     × ((u : TheUnit) → usableUnit u ≡ true → u .clock .elapsed .value ≡ 2 ^ 56 - 1 → takeTicks u 1 .unit .clock .elapsed .value ≡ 0)
 
 -- Time-Code 0 behind 63 makes one ET of another, in every usable unit in which that waits: no value, or one.
-abbrev pub Wraps : Waiting → ℕ → ℕ → Type 0
-Wraps waiting before after =
+abbrev pub WrapMakes : Waiting → ℕ → ℕ → Type 0
+WrapMakes waiting before after =
     (u : TheUnit) → usableUnit u ≡ true → u .clock .last ≡ 63 → u .clock .waiting ≡ waiting → u .clock .elapsed .value ≡ before
     → takeTimeCode u 0 .unit .clock .elapsed .value ≡ after
 
 abbrev pub WrapCases : Type 0
 WrapCases =
-    -- exactly one half, and one tick below it
-    Wraps NoValue 0x00000007800000 0x00000008000000
-    × Wraps NoValue 0x000000077FFFFF 0x00000007000000
+    -- exactly one half, and one tick below it; of an odd second and of an even one
+    WrapMakes NoValue 0x00000007800000 0x00000008000000
+    × WrapMakes NoValue 0x000000077FFFFF 0x00000007000000
+    × WrapMakes NoValue 0x00000006800000 0x00000007000000
+    × WrapMakes NoValue 0x000000067FFFFF 0x00000006000000
     -- a second that is nearly over, one that has just begun, and one that begins
-    × Wraps NoValue 0x00000007FFFFFF 0x00000008000000
-    × Wraps NoValue 0x00000007000001 0x00000007000000
-    × Wraps NoValue 0x00000007000000 0x00000007000000
+    × WrapMakes NoValue 0x00000007FFFFFF 0x00000008000000
+    × WrapMakes NoValue 0x00000007000001 0x00000007000000
+    × WrapMakes NoValue 0x00000007000000 0x00000007000000
+    -- all 32 bits of the seconds count
+    × WrapMakes NoValue 0x7FFFFFFF800000 0x80000000000000
     -- the last second of all: from one half on it rolls over to 0, below it stays
-    × Wraps NoValue 0xFFFFFFFFFFFFFF 0
-    × Wraps NoValue 0xFFFFFFFF800000 0
-    × Wraps NoValue 0xFFFFFFFF7FFFFF 0xFFFFFFFF000000
-    × Wraps NoValue 0xFFFFFFFF000000 0xFFFFFFFF000000
+    × WrapMakes NoValue 0xFFFFFFFFFFFFFF 0
+    × WrapMakes NoValue 0xFFFFFFFF800000 0
+    × WrapMakes NoValue 0xFFFFFFFF7FFFFF 0xFFFFFFFF000000
+    × WrapMakes NoValue 0xFFFFFFFF000000 0xFFFFFFFF000000
     -- a waiting value wins on both sides of the half
-    × ((w : Elapsed) → Wraps (Value w) 0x00000007800000 (w .value) × Wraps (Value w) 0x000000077FFFFF (w .value))
+    × ((w : Elapsed) → WrapMakes (Value w) 0x00000007800000 (w .value) × WrapMakes (Value w) 0x000000077FFFFF (w .value))

@@ -120,9 +120,9 @@ abbrev pub clearsMemory : Terminal
 clearsMemory = faking (λ u p lent. cleared (takePacket u p lent))
 
 -- Its packets and ticks are ours, but at the wrap seconds go up whatever the fraction: document 01's terminal before request 3.
-abbrev pub goesUp : Waiting → Clock → ℕ → Clock
-goesUp (Value w) c v = afterCode c v
-goesUp NoValue c v =
+abbrev pub alwaysUp : Waiting → Clock → ℕ → Clock
+alwaysUp (Value w) c v = afterCode c v
+alwaysUp NoValue c v =
     cond (eqb (c .last) 63 && eqb v 0)
     (record {
       last = v;
@@ -134,7 +134,7 @@ goesUp NoValue c v =
 abbrev pub secondAhead : Terminal
 secondAhead = record {
   packet = takePacket;
-  timeCode = λ u byte. smallCall u (withClock u (goesUp (u .clock .waiting) (u .clock) (byte % 2 ^ 6)));
+  timeCode = λ u byte. smallCall u (withClock u (alwaysUp (u .clock .waiting) (u .clock) (byte % 2 ^ 6)));
   ticks = takeTicks;
 }
 
@@ -166,7 +166,7 @@ ImpostorsShutOut =
 abbrev pub ThreeAloneLetsBy : Type 0
 ThreeAloneLetsBy = Merges doesNothing
 
--- The three before the last were let by by less than the demands say now. That some bytes were written as a reply: what only claims to reply has written none of
+-- What replies nothing, what gives up and what clears memory were let by by less than the demands say now. That some bytes were written as a reply: what only claims to reply has written none of
 -- them. That a unit stays usable where every memory has one length: what gives up is never given another. That refused commands change no memory: what
 -- clears it where a header CRC is wrong does so to no command.
 abbrev pub SomeReplyLetsBy : Type 0

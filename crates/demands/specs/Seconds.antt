@@ -1,5 +1,6 @@
--- Why the Time-Code's wrap goes to the nearest second (document 01, 'Time', as request 3 of document 02 has it): it moves ET little, and an oscillator that runs
--- fast or slow does not show. All of it is about wraps at which no value waits; a waiting value becomes ET, whatever ET is.
+-- Why the Time-Code's wrap goes to the nearest second (document 01, 'Time', as request 3 of document 02 has it): it moves ET little, and an oscillator that is
+-- fast or slow by less than half a second does not show, where of the Time-Codes between two wraps all come, or none that sets the fraction. All of it is about
+-- wraps at which no value waits; a waiting value becomes ET, whatever ET is.
 use mathlib.Core.Path.{_≡_}
 use mathlib.Core.Bool.{true}
 use mathlib.Core.Logic.{_⊎_, _≢_}
@@ -62,6 +63,7 @@ begun t u first = t .timeCode u first .unit
 abbrev pub turned : Terminal → TheUnit → ℕ → List Call → ℕ → TheUnit
 turned t u first between next = t .timeCode (after t (begun t u first) between) next .unit
 
+-- Two wraps, and calls of bytes between them; at the first no value waits.
 abbrev pub Turns : Terminal → TheUnit → ℕ → List Call → ℕ → Type 0
 Turns t u first between next = WrapsAlone u first × Every OfBytes between × Wraps (after t (begun t u first) between) next
 
@@ -90,7 +92,7 @@ TicksAreSeconds t =
     (u : TheUnit) (first : ℕ) (between : List Call) (next : ℕ) → Turns t u first between next → OnlyTicks t (begun t u first) between
     → GoesUp ((ticksIn between + 2 ^ 23) / 2 ^ 24) t u first between next
 
--- by exactly one where the oscillator is fast or slow by less than half a second.
+-- by exactly one where the oscillator is slow by at most half a second, or fast by less.
 abbrev pub OneSecond : Terminal → Type 0
 OneSecond t =
     (u : TheUnit) (first : ℕ) (between : List Call) (next : ℕ) → Turns t u first between next → OnlyTicks t (begun t u first) between

@@ -30,6 +30,7 @@ use Rattle.unit.specs.declared.fate.Status.the-variants.{NotAuthorised, 
 use Rattle.unit.specs.declared.fate.Fate.{Fate}
 use Rattle.unit.specs.declared.fate.Fate.the-variants.{TimeChanged, Unusable, NoSuchLink, NoRoom, Unread, TimeThrownAway, NotObeyed, Obeyed, TimeTaken, Replied}
 use Rattle.unit.specs.declared.clock.Clock.{Clock}
+use Rattle.unit.specs.declared.clock.Waiting.{Waiting}
 use Rattle.unit.specs.declared.clock.Waiting.the-variants.{NoValue, Value}
 use Rattle.unit.specs.declared.owner.Owner.{Owner}
 use Rattle.unit.specs.declared.unit.Unit.{Unit as TheUnit}
@@ -74,28 +75,38 @@ unfolding afterTicks
 one-tick = refl
 
 -- the next second from one half of the fraction on, the same below it; the last second of all rolls over from there on
-next-second : map (λ (et : ℕ). afterCode (at 63 et) 0) (0x00000007800000 ∷ 0x00000007800001 ∷ 0x00000007FFFFFF ∷ 0xFFFFFFFF800000 ∷ 0xFFFFFFFFFFFFFF ∷ [])
-    ≡ at 0 0x00000008000000 ∷ at 0 0x00000008000000 ∷ at 0 0x00000008000000 ∷ at 0 0 ∷ at 0 0 ∷ []
+next-second : map (λ (et : ℕ). afterCode (at 63 et) 0)
+    (0x00000007800000 ∷ 0x00000006800000 ∷ 0x00000007800001 ∷ 0x00000007FFFFFF ∷ 0x7FFFFFFF800000 ∷ 0xFFFFFFFF800000 ∷ 0xFFFFFFFFFFFFFF ∷ [])
+    ≡ at 0 0x00000008000000 ∷ at 0 0x00000007000000 ∷ at 0 0x00000008000000 ∷ at 0 0x00000008000000 ∷ at 0 0x80000000000000 ∷ at 0 0 ∷ at 0 0 ∷ []
 unfolding afterCode nearestSecond
 next-second = refl
 
-same-second : map (λ (et : ℕ). afterCode (at 63 et) 0) (0x000000077FFFFF ∷ 0x00000007000001 ∷ 0x00000007000000 ∷ 0xFFFFFFFF123456 ∷ 0xFFFFFFFF7FFFFF ∷ [])
-    ≡ at 0 0x00000007000000 ∷ at 0 0x00000007000000 ∷ at 0 0x00000007000000 ∷ at 0 0xFFFFFFFF000000 ∷ at 0 0xFFFFFFFF000000 ∷ []
+same-second : map (λ (et : ℕ). afterCode (at 63 et) 0)
+    (0x000000077FFFFF ∷ 0x000000067FFFFF ∷ 0x00000007000001 ∷ 0x00000007000000 ∷ 0xFFFFFFFF123456 ∷ 0xFFFFFFFF7FFFFF ∷ [])
+    ≡ at 0 0x00000007000000 ∷ at 0 0x00000006000000 ∷ at 0 0x00000007000000 ∷ at 0 0x00000007000000 ∷ at 0 0xFFFFFFFF000000 ∷ at 0 0xFFFFFFFF000000 ∷ []
 unfolding afterCode nearestSecond
 same-second = refl
 
-next-code : afterCode (at 4 0x00000007123456) 5 ≡ at 5 0x00000007140000
-unfolding afterCode
+next-code : afterCode (at 4 0x00000007923456) 5 ≡ at 5 0x00000007140000
+unfolding afterCode nearestSecond
 next-code = refl
 
-other-code : afterCode (at 4 0x00000007123456) 6 ≡ at 6 0x00000007123456
-unfolding afterCode
+-- neither the next Time-Code nor the wrap: from 4 to 6, from 62 and from 0 to 0, from 63 to 1 and to 63
+other-code : map (λ (p : ℕ × ℕ). afterCode (at (p .0) 0x00000006923456) (p .1)) ((4, 6) ∷ (62, 0) ∷ (0, 0) ∷ (63, 1) ∷ (63, 63) ∷ [])
+    ≡ at 6 0x00000006923456 ∷ at 0 0x00000006923456 ∷ at 0 0x00000006923456 ∷ at 1 0x00000006923456 ∷ at 63 0x00000006923456 ∷ []
+unfolding afterCode nearestSecond
 other-code = refl
 
-waited : afterCode (record { last = 63; elapsed = record { value = 1; epoch = 0x9F }; waiting = Value (record { value = 0x77; epoch = 0xAF }) }) 0
-    ≡ record { last = 0; elapsed = record { value = 0x77; epoch = 0xAF }; waiting = NoValue }
-unfolding afterCode
-waited = refl
+-- the wrap keeps the epoch code; a waiting value brings its own, and becomes ET whether it is later or earlier
+abbrev with-epoch : ℕ → ℕ → ℕ → Waiting → Clock
+with-epoch last et epoch waiting = record { last = last; elapsed = record { value = et; epoch = epoch }; waiting = waiting }
+
+epochs : (afterCode (with-epoch 63 0x00000007800000 0xAF NoValue) 0 ≡ with-epoch 0 0x00000008000000 0xAF NoValue)
+    × (afterCode (with-epoch 63 0x00000007400000 0xAF NoValue) 0 ≡ with-epoch 0 0x00000007000000 0xAF NoValue)
+    × (afterCode (with-epoch 63 1 0x9F (Value (record { value = 0x77; epoch = 0xAF }))) 0 ≡ with-epoch 0 0x77 0xAF NoValue)
+    × (afterCode (with-epoch 63 0x00000007800000 0x9F (Value (record { value = 0x77; epoch = 0xAF }))) 0 ≡ with-epoch 0 0x77 0xAF NoValue)
+unfolding afterCode nearestSecond
+epochs = (refl, refl, refl, refl)
 
 -- ---- the places of a field's address: application FF, protocol 1F, set 0, field 3FFF
 
