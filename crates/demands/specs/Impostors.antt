@@ -166,9 +166,9 @@ ImpostorsShutOut =
 abbrev pub ThreeAloneLetsBy : Type 0
 ThreeAloneLetsBy = Merges doesNothing
 
--- What replies nothing, what gives up and what clears memory were let by by less than the demands say now. That some bytes were written as a reply: what only claims to reply has written none of
--- them. That a unit stays usable where every memory has one length: what gives up is never given another. That refused commands change no memory: what
--- clears it where a header CRC is wrong does so to no command.
+-- What only claims to reply, what gives up and what clears memory were let by by less than the demands say now. That some bytes were written as a reply: the
+-- first has written none of them. That a unit stays usable where every memory has one length: the second is never given another. That refused commands change no
+-- memory: the third clears it where a header CRC is wrong, and that is no command.
 abbrev pub SomeReplyLetsBy : Type 0
 SomeReplyLetsBy = (u : TheUnit) (p : Arrived) (lent : Lent) → (bytes : List ℕ) × Written bytes lent (repliesNothing .packet u p lent)
 
