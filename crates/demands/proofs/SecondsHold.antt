@@ -79,7 +79,7 @@ only-ticks u (packet p lent ∷ cs) works b h =
 only-ticks u (timeCode byte ∷ cs) works b h =
     let rest = only-ticks (takeTimeCode u byte .unit) cs (usable-code u byte ∙ works) (b .1) (h .2) in
     let e = code-clock u byte works in
-    let c = code-other (u .clock) (byte % 2 ^ 6) (h .0) (h .1) in
+    let c = code-other (u .clock) (byte % 2 ^ 6) (λ e f. h .1 (e, f)) (h .0) in
     (rest .0 ∙ rw (ap value e ∙ c .1), rest .1 ∙ ap held e ∙ c .3)
 only-ticks u (ticks n ∷ cs) works b h =
     let rest = only-ticks (takeTicks u n .unit) cs (usable-ticks u n ∙ works) (b .1) h in

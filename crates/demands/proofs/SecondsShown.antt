@@ -56,11 +56,10 @@ coded v et h k =
     let low : (v + 1) % 2 ^ 6 ≡ v + 1 = omega (arith, h) in
     rw (works-at v et (omega (arith, h)) k, low, ne-eqb v 63 (λ e. omega (arith, e, h)), eq-eqb (v + 1) (v + 1) refl)
 
+-- it is no wrap, so the other does as ours
 coded-ahead : Coded secondAhead
-unfolding afterCode
-coded-ahead v et h k =
-    let low : (v + 1) % 2 ^ 6 ≡ v + 1 = omega (arith, h) in
-    rw (works-at v et (omega (arith, h)) k, low, ne-eqb v 63 (λ e. omega (arith, e, h)), eq-eqb (v + 1) (v + 1) refl)
+unfolding takeTimeCode
+coded-ahead v et h k = rw (ne-eqb v 63 (λ e. omega (arith, e, h))) (coded v et h k)
 
 module _ (t : Terminal) (same : (u : TheUnit) (n : ℕ) → t .ticks u n .unit ≡ takeTicks u n .unit) (next : Coded t) where
   -- ticks for a part of 64 and one more; and then the next Time-Code
@@ -127,7 +126,7 @@ turns t v et between e b g = (
 
 -- 63 is neither the next Time-Code behind 0 nor a wrap
 only-lost : (t : Terminal) (v : TheUnit) → t .ticks v (2 ^ 24 + 1) .unit .clock .last ≡ 0 → OnlyTicks t v lost
-only-lost t v last = (λ e. absurd (omega (arith, last, e)), λ e. omega (arith, last, e), tt)
+only-lost t v last = (λ e. omega (arith, last, e), λ w. omega (arith, last, w .0), tt)
 
 only : OnlyTicks ours (on 0 0) lost
 unfolding takeTicks afterTicks usableUnit

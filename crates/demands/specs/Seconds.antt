@@ -82,8 +82,7 @@ ticksIn (ticks n ∷ cs) = n + ticksIn cs
 abbrev pub OnlyTicks : Terminal → TheUnit → List Call → Type 0
 OnlyTicks t u [] = Unit
 OnlyTicks t u (packet p lent ∷ cs) = NotTaken t u p lent × OnlyTicks t (t .packet u p lent .answer .unit) cs
-OnlyTicks t u (timeCode byte ∷ cs) =
-    (u .clock .last ≡ 63 → byte % 2 ^ 6 ≢ 0) × (byte % 2 ^ 6 ≢ u .clock .last + 1) × OnlyTicks t (t .timeCode u byte .unit) cs
+OnlyTicks t u (timeCode byte ∷ cs) = (byte % 2 ^ 6 ≢ u .clock .last + 1) × (Wraps u byte → ⊥) × OnlyTicks t (t .timeCode u byte .unit) cs
 OnlyTicks t u (ticks n ∷ cs) = OnlyTicks t (t .ticks u n .unit) cs
 
 -- Then seconds go up by as many as are nearest to the ticks;

@@ -26,9 +26,12 @@ zeros count = record { bytes = replicate 12 0; count = count }
 abbrev pub owner : ℕ → ℕ → ℕ → ℕ → Owner
 owner device initiator count link = record { device = device; initiator = initiator; path = zeros count; link = link }
 
--- last Time-Code, ET, what waits
+-- last Time-Code, ET with its epoch code, what waits; and with the epoch code 9F
+abbrev pub clock-of : ℕ → ℕ → ℕ → Waiting → Clock
+clock-of last et epoch waiting = record { last = last; elapsed = record { value = et; epoch = epoch }; waiting = waiting }
+
 abbrev pub clock : ℕ → ℕ → Waiting → Clock
-clock last et waiting = record { last = last; elapsed = record { value = et; epoch = 0x9F }; waiting = waiting }
+clock last et waiting = clock-of last et 0x9F waiting
 
 -- fields of which no two are the same, with a divider. Rate range: maximum 10 in the high half, minimum 4 in the low half
 abbrev pub fields : ℕ → Fields

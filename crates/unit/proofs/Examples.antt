@@ -30,11 +30,10 @@ use Rattle.unit.specs.declared.fate.Status.the-variants.{NotAuthorised, 
 use Rattle.unit.specs.declared.fate.Fate.{Fate}
 use Rattle.unit.specs.declared.fate.Fate.the-variants.{TimeChanged, Unusable, NoSuchLink, NoRoom, Unread, TimeThrownAway, NotObeyed, Obeyed, TimeTaken, Replied}
 use Rattle.unit.specs.declared.clock.Clock.{Clock}
-use Rattle.unit.specs.declared.clock.Waiting.{Waiting}
 use Rattle.unit.specs.declared.clock.Waiting.the-variants.{NoValue, Value}
 use Rattle.unit.specs.declared.owner.Owner.{Owner}
 use Rattle.unit.specs.declared.unit.Unit.{Unit as TheUnit}
-use Rattle.unit.proofs.ExampleParts.{window, windows, owner, clock, fields, unit}
+use Rattle.unit.proofs.ExampleParts.{window, windows, owner, clock-of, clock, fields, unit}
 
 -- ---- document 01's numbers: statuses and fates
 
@@ -98,13 +97,10 @@ unfolding afterCode nearestSecond
 other-code = refl
 
 -- the wrap keeps the epoch code; a waiting value brings its own, and becomes ET whether it is later or earlier
-abbrev with-epoch : ℕ → ℕ → ℕ → Waiting → Clock
-with-epoch last et epoch waiting = record { last = last; elapsed = record { value = et; epoch = epoch }; waiting = waiting }
-
-epochs : (afterCode (with-epoch 63 0x00000007800000 0xAF NoValue) 0 ≡ with-epoch 0 0x00000008000000 0xAF NoValue)
-    × (afterCode (with-epoch 63 0x00000007400000 0xAF NoValue) 0 ≡ with-epoch 0 0x00000007000000 0xAF NoValue)
-    × (afterCode (with-epoch 63 1 0x9F (Value (record { value = 0x77; epoch = 0xAF }))) 0 ≡ with-epoch 0 0x77 0xAF NoValue)
-    × (afterCode (with-epoch 63 0x00000007800000 0x9F (Value (record { value = 0x77; epoch = 0xAF }))) 0 ≡ with-epoch 0 0x77 0xAF NoValue)
+epochs : (afterCode (clock-of 63 0x00000007800000 0xAF NoValue) 0 ≡ clock-of 0 0x00000008000000 0xAF NoValue)
+    × (afterCode (clock-of 63 0x00000007400000 0xAF NoValue) 0 ≡ clock-of 0 0x00000007000000 0xAF NoValue)
+    × (afterCode (clock-of 63 1 0x9F (Value (record { value = 0x77; epoch = 0xAF }))) 0 ≡ clock-of 0 0x77 0xAF NoValue)
+    × (afterCode (clock-of 63 0x00000007800000 0x9F (Value (record { value = 0x77; epoch = 0xAF }))) 0 ≡ clock-of 0 0x77 0xAF NoValue)
 unfolding afterCode nearestSecond
 epochs = (refl, refl, refl, refl)
 
