@@ -11,7 +11,6 @@ use lib.ListN.{length, getD}
 use Rattle.octets.proofs.PlaceLaws.{second-true}
 use Rattle.packets.specs.Instruction.{isRmw, isWrite, headerSize}
 use Rattle.packets.specs.Header.{kindIn}
-use Rattle.packets.specs.Reading.{readPacket}
 use Rattle.packets.specs.declared.instruction.Kind.{Kind}
 use Rattle.packets.specs.declared.instruction.Kind.the-variants.{ReadModifyWrite, Write}
 use Rattle.packets.specs.declared.header.Header.{Header}
@@ -21,7 +20,7 @@ use Rattle.unit.specs.Some.{some}
 use Rattle.unit.specs.Fate.{isSuccess, fateNumber}
 use Rattle.unit.specs.Windows.{holds, hasRight, used}
 use Rattle.unit.specs.Usable.{usable}
-use Rattle.unit.specs.Given.{Arrived, Lent}
+use Rattle.unit.specs.Given.{Arrived, asRead, Lent}
 use Rattle.unit.specs.Decide.{spanSize, headerStatus, allAtHand, dataCount, dataStatusOf}
 use Rattle.unit.specs.Act.{stored}
 use Rattle.unit.specs.Calls.{withoutReply, leaving, takeTimeCode, takeTicks}
@@ -40,7 +39,7 @@ use Rattle.unit.proofs.CommandLaws.{takeCommand, packet-is, command-is}
 use Rattle.unit.proofs.GrantLaws.{authorised-window}
 use Rattle.unit.proofs.MemoryLaws.{memory-outside, storing-kind}
 use Rattle.demands.proofs.NumbersHold.{one-two-three, small-rows}
-use Rattle.demands.specs.Terminal.{ours, IsCommand, Call, packet, timeCode, ticks, answerTo, after}
+use Rattle.demands.specs.Terminal.{ours, readOf, IsCommand, Call, packet, timeCode, ticks, answerTo, after}
 use Rattle.demands.specs.Refusals.{SmallRow, ByCode, ByTicks}
 use Rattle.demands.specs.Bounds.{WindowForWriting, OnlyInWindow, NeverStrays, SetUpStays, OfBytes, StaysUsable, Lends, ComesBack}
 
@@ -72,12 +71,12 @@ storing-bit h (inl k) = rw (write-bit h k)
 storing-bit h (inr k) = rw k (or-true (isWrite (h .instruction)))
 
 module _ (u : TheUnit) (p : Arrived) (lent : Lent) (works : usable u (length (lent .memory)) ≡ true) (h : Header)
-    (read : readPacket (p .packet) (u .number) .reading ≡ Command h) where
+    (read : readOf u p .reading ≡ Command h) where
   abbrev path : Path
-  path = readPacket (p .packet) (u .number) .path
+  path = readOf u p .path
 
   abbrev left : List ℕ
-  left = stored (memoryActionIn h p) (p .packet) (lent .memory)
+  left = stored (memoryActionIn h (asRead p)) (asRead p .packet) (lent .memory)
 
   abbrev there : ℕ → Type 0
   there i =
@@ -86,10 +85,10 @@ module _ (u : TheUnit) (p : Arrived) (lent : Lent) (works : usable u (length (le
 
   strays : h .protocol ≡ 0x01 → isSuccess (headerStatus u h path (p .link)) ≡ true → (i : ℕ) → getD left i 0 ≢ getD (lent .memory) i 0 → there i
   strays e a i other =
-      go (storing-kind (kindIn h) h (dataStatusOf h p) (p .packet) (lent .memory) (headerSize (h .instruction)) (dataCount h (allAtHand h p))) (decLe (h .address) i) (decLe (h .address + spanSize h) i)
+      go (storing-kind (kindIn h) h (dataStatusOf h (asRead p)) (asRead p .packet) (lent .memory) (headerSize (h .instruction)) (dataCount h (allAtHand h (asRead p)))) (decLe (h .address) i) (decLe (h .address + spanSize h) i)
     where
       outside : (i < h .address) ⊎ (h .address + spanSize h ≤ i) → ⊥
-      outside o = other (memory-outside u h path p (lent .memory) works (header-whole (p .packet) (u .number) h read) e a i o)
+      outside o = other (memory-outside u h path (asRead p) (lent .memory) works (header-whole (asRead p .packet) (u .number) h read) e a i o)
 
       window : (kindIn h ≡ Write) ⊎ (kindIn h ≡ ReadModifyWrite) → WindowForWriting u h
       window k =
@@ -103,9 +102,9 @@ module _ (u : TheUnit) (p : Arrived) (lent : Lent) (works : usable u (length (le
       go (inr k) (yes b) (yes l) = absurd (outside (inr l))
       go (inr k) (yes b) (no l) = (h, read, e, storing-bit h k, b, lt-of-not-le l, window k)
 
-  command-strays : OnlyInWindow u p lent (takeCommand u h path p lent)
+  command-strays : OnlyInWindow u p lent (takeCommand u h path (asRead p) lent)
   command-strays =
-      command-is u h path p lent (OnlyInWindow u p lent) same (λ e. (λ w. same, λ w. same)) (λ e a. (λ w. strays e a, λ w. strays e a))
+      command-is u h path (asRead p) lent (OnlyInWindow u p lent) same (λ e. (λ w. same, λ w. same)) (λ e a. (λ w. strays e a, λ w. strays e a))
       (λ e a. (λ w. same, λ w. same))
     where
       same : (i : ℕ) → getD (lent .memory) i 0 ≢ getD (lent .memory) i 0 → there i

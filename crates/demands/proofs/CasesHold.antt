@@ -3,15 +3,16 @@ use mathlib.Core.Path.{refl}
 use Rattle.octets.specs.Crc.{crc, mirrored, bits, remainder, message, modulo}
 use Rattle.packets.specs.Instruction.{kindOf}
 use Rattle.packets.specs.Path.{withoutLeadingZeros, orOneZero, pathOf}
-use Rattle.packets.specs.Reading.{readProtocol, readPacket}
+use Rattle.packets.specs.Reading.{bare, readCommand, readProtocol, readPacket}
+use Rattle.packets.specs.Time.{readTime}
 use Rattle.unit.specs.Counters.{countedFor}
 use Rattle.unit.specs.Clock.{nearestSecond, afterCode, afterTicks}
 use Rattle.unit.specs.Judge.{judged}
 use Rattle.unit.specs.Calls.{takePacket, takeTimeCode, takeTicks}
-use Rattle.demands.specs.Cases.{HandCases, WrapCases}
+use Rattle.demands.specs.Cases.{HandCases, WrapCases, ZeroCases}
 
 pub hand-cases : HandCases
-unfolding crc mirrored bits remainder message modulo kindOf withoutLeadingZeros orOneZero pathOf readProtocol readPacket afterTicks takePacket judged countedFor takeTicks
+unfolding crc mirrored bits remainder message modulo kindOf withoutLeadingZeros orOneZero pathOf readProtocol readPacket afterTicks takePacket bare judged countedFor takeTicks
 hand-cases = (
   refl,
   refl,
@@ -44,4 +45,23 @@ wrap-cases = (
   λ u works last waits et. rw (works, last, waits, et),
   λ u works last waits et. rw (works, last, waits, et),
   λ w. (λ u works last waits et. rw (works, last, waits), λ u works last waits et. rw (works, last, waits)),
+)
+
+pub zero-cases : ZeroCases
+unfolding crc mirrored bits remainder message modulo bare readCommand readProtocol readPacket readTime takePacket judged countedFor
+zero-cases = (
+  λ u end link lent works there. rw (works, there),
+  λ u end link lent works there. rw (works, there),
+  λ u end link lent works there. rw (works, there),
+  λ u end link lent works there. rw (works, there),
+  λ u end link lent works there. rw (works, there),
+  λ u end link lent works there. rw (works, there),
+  λ u end link lent works there. rw (works, there),
+  λ u end link lent works there number. rw (works, there, number),
+  λ u end link lent works there number. rw (works, there, number),
+  λ u end link lent works there number. rw (works, there, number),
+  λ u end link lent works there number. rw (works, there, number),
+  λ u end link lent works there. rw (works, there),
+  λ u end link lent works there number. rw (works, there, number),
+  λ u end link lent works there number. rw (works, there, number),
 )

@@ -1,6 +1,6 @@
 -- The customer's demands hold of our terminal.
 use Rattle.demands.specs.Terminal.{ours}
-use Rattle.demands.specs.Demands.{Demand1, Demand2, Demand3, Histories, NamesKept, SecondsKept}
+use Rattle.demands.specs.Demands.{Demand1, Demand2, Demand3, Histories, NamesKept, SecondsKept, ZeroIgnored}
 use Rattle.demands.proofs.RefusalsHold.{row-by-row}
 use Rattle.demands.proofs.NumbersHold.{one-two-three, small-rows, listed}
 use Rattle.demands.proofs.RowsReached.{no-row-empty}
@@ -13,6 +13,7 @@ use Rattle.demands.proofs.CountsHold.{counters-are-history, low-count-n
 use Rattle.demands.proofs.NamesHold.{rows-kept, missing-refused, missing-is-f1, obeyed-in-window}
 use Rattle.demands.proofs.SecondsHold.{others-leave-time, wrap-moves-half, one-is-nearest, ticks-are-seconds, one-second, one-second-in-order}
 use Rattle.demands.proofs.SecondsShown.{some-turn}
+use Rattle.demands.proofs.ZeroHolds.{as-without-it, others-as-before, taken-once, was-refused, none-with-zero}
 
 pub demand-1 : Demand1 ours
 demand-1 = (row-by-row, one-two-three, small-rows, listed, no-row-empty, never-strays, set-up-stays, stays-usable, comes-back)
@@ -31,3 +32,6 @@ names-kept = (rows-kept, missing-refused, missing-is-f1, obeyed-in-window)
 
 pub seconds-kept : SecondsKept ours
 seconds-kept = (others-leave-time, wrap-moves-half, one-is-nearest, ticks-are-seconds, one-second, one-second-in-order, some-turn)
+
+pub zero-ignored : ZeroIgnored ours
+zero-ignored = (as-without-it, others-as-before, taken-once, was-refused, none-with-zero)

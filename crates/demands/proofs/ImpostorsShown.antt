@@ -13,7 +13,7 @@ use Rattle.octets.proofs.PlaceLaws.{first-true, second-true}
 use Rattle.packets.specs.Instruction.{kindOf}
 use Rattle.packets.specs.Path.{withoutLeadingZeros, orOneZero, pathOf}
 use Rattle.packets.specs.Header.{partsAt}
-use Rattle.packets.specs.Reading.{readCommand, readProtocol, readPacket}
+use Rattle.packets.specs.Reading.{bare, readCommand, readProtocol, readPacket}
 use Rattle.packets.specs.Reply.{replyWith, replyLength, replied}
 use Rattle.packets.specs.declared.header.Header.{Header}
 use Rattle.packets.specs.declared.reading.Reading.the-variants.{Refused, Command}
@@ -26,14 +26,14 @@ use Rattle.unit.specs.Decide.{openingStatus, spanSize, isAuthorised, spanStatus
 use Rattle.unit.specs.Plan.{replyCount, plannedFor, decidedByData, decidedOn}
 use Rattle.unit.specs.Judge.{judged}
 use Rattle.unit.specs.Act.{stored, dataFor, repliedTo, changed}
-use Rattle.unit.specs.Given.{Arrived, Lent}
+use Rattle.unit.specs.Given.{Arrived, asRead, Lent}
 use Rattle.unit.specs.Calls.{Outcome, takePacket}
 use Rattle.unit.specs.declared.unit.Unit.{Unit as TheUnit}
 use Rattle.unit.specs.declared.fate.Status.the-variants.{Success}
 use Rattle.unit.specs.declared.fate.Fate.the-variants.{Replied}
 use Rattle.unit.specs.declared.fate.Told.the-variants.{Byte}
 use Rattle.demands.proofs.Witnesses.{unit, memory, shorter, buffer, arrived, lent, write-0, write-0-bytes, write-4, read-past, wrong-crc}
-use Rattle.demands.specs.Terminal.{IsCommand, pathIn, Call, packet, timeCode, ticks, answerTo, after, fatesOf}
+use Rattle.demands.specs.Terminal.{readOf, IsCommand, pathIn, Call, packet, timeCode, ticks, answerTo, after, fatesOf}
 use Rattle.demands.specs.ReplyDue.{replyDue}
 use Rattle.demands.specs.Refusals.{Leaves, RowByRow}
 use Rattle.demands.specs.Bounds.{OfBytes, Lends, StaysUsable}
@@ -44,6 +44,7 @@ use Rattle.demands.specs.Impostors.{refusesAll, doesNothing, repliesZero
 use Rattle.demands.proofs.NamesHold.{byte-in}
 use Rattle.demands.proofs.NumbersHold.{one-two-three}
 use Rattle.demands.proofs.SecondsShown.{ahead-moves-more, ahead-by-ticks, ahead-in-order}
+use Rattle.demands.proofs.ZeroShown.{reads-the-zero-shut-out, reads-the-zero-no-rows, shifts-data-shut-out, shifts-data-no-rows}
 use Rattle.demands.proofs.MeaningHolds.{refused-changes-none}
 use Rattle.unit.proofs.UsableLaws.{packet-with-memory, code-with-memory, ticks-with-memory}
 use Rattle.unit.proofs.CommandLaws.{packet-is, command-fate}
@@ -81,9 +82,9 @@ computed :
     × (usable (unit 0) 8 ≡ true)
     × (usable (after givesUp (unit 0) (packet (arrived write-0 1) (lent shorter buffer) ∷ [])) 8 ≡ false)
     -- a wrong header CRC, and memory
-    × (readPacket wrong-crc 0xF0 .reading ≡ Refused HeaderCrc)
+    × (readOf (unit 0) (arrived wrong-crc 1) .reading ≡ Refused HeaderCrc)
     × (getD (clearsMemory .packet (unit 0) (arrived wrong-crc 1) (lent memory buffer) .memory) 0 0 ≡ 0)
-unfolding takePacket judged decidedOn decidedByData plannedFor headerStatus openingStatus spanStatus spanSize isAuthorised wantedCount dataStatus replyCount stored dataFor repliedTo changed countedFor usable usableUnit readPacket readProtocol readCommand kindOf withoutLeadingZeros orOneZero pathOf replyLength replied replyWith crc mirrored bits remainder message modulo ends after fatesOf countOf
+unfolding takePacket bare judged decidedOn decidedByData plannedFor headerStatus openingStatus spanStatus spanSize isAuthorised wantedCount dataStatus replyCount stored dataFor repliedTo changed countedFor usable usableUnit readPacket readProtocol readCommand kindOf withoutLeadingZeros orOneZero pathOf replyLength replied replyWith crc mirrored bits remainder message modulo ends after fatesOf countOf
 computed = (refl, refl, refl, refl, refl, refl, refl, refl, refl, refl, refl, refl, refl, refl)
 
 -- ---- demand 2 shuts out the first three
@@ -113,17 +114,17 @@ obeys-first-shut-out meets =
 
 -- the two writes are apart: one refers to bytes 0 and 1, the other to 4 and 5
 refers-0 : (i : ℕ) → refers start x i ≡ (leb 0 i && ltb i 2)
-unfolding refers takePacket judged decidedOn decidedByData plannedFor headerStatus openingStatus spanStatus spanSize isAuthorised wantedCount dataStatus replyCount stored dataFor repliedTo changed countedFor usable usableUnit readPacket readProtocol readCommand kindOf withoutLeadingZeros orOneZero pathOf replyLength replied replyWith crc mirrored bits remainder message modulo
+unfolding refers takePacket bare judged decidedOn decidedByData plannedFor headerStatus openingStatus spanStatus spanSize isAuthorised wantedCount dataStatus replyCount stored dataFor repliedTo changed countedFor usable usableUnit readPacket readProtocol readCommand kindOf withoutLeadingZeros orOneZero pathOf replyLength replied replyWith crc mirrored bits remainder message modulo
 refers-0 i = refl
 
 refers-4 : (i : ℕ) → refers start y i ≡ (leb 4 i && ltb i 6)
-unfolding refers takePacket judged decidedOn decidedByData plannedFor headerStatus openingStatus spanStatus spanSize isAuthorised wantedCount dataStatus replyCount stored dataFor repliedTo changed countedFor usable usableUnit readPacket readProtocol readCommand kindOf withoutLeadingZeros orOneZero pathOf replyLength replied replyWith crc mirrored bits remainder message modulo
+unfolding refers takePacket bare judged decidedOn decidedByData plannedFor headerStatus openingStatus spanStatus spanSize isAuthorised wantedCount dataStatus replyCount stored dataFor repliedTo changed countedFor usable usableUnit readPacket readProtocol readCommand kindOf withoutLeadingZeros orOneZero pathOf replyLength replied replyWith crc mirrored bits remainder message modulo
 refers-4 i = refl
 
 one-only : (c d : Sent) → ((i : ℕ) → refers start c i ≡ true → refers start d i ≡ false) → Clear start (c ∷ []) (d ∷ [])
 unfolding stores
 one-only c d apart i e =
-    rw (apart i (second-true (isStore (readPacket (c .arrived .packet) 0xF0 .reading)) (refers start c i) (sym (or-false (stores start c i)) ∙ e)))
+    rw (apart i (second-true (isStore (readOf (unit 0) (c .arrived) .reading)) (refers start c i) (sym (or-false (stores start c i)) ∙ e)))
 
 apart : Apart start (x ∷ []) (y ∷ [])
 apart = (
@@ -171,15 +172,15 @@ invents-counters-shut-out history-of =
 -- ---- a reply that is only claimed
 
 -- the write is replied to with status 0, and that reply has eight bytes
-due : (h : Header) → readPacket write-0 0xF0 .reading ≡ Command h → length (replyDue (unit 0) (arrived write-0 1) (lent memory buffer) h Success) ≡ 8
-unfolding takePacket judged decidedOn decidedByData plannedFor headerStatus openingStatus spanStatus spanSize isAuthorised wantedCount dataStatus replyCount stored dataFor repliedTo changed countedFor usable usableUnit readPacket readProtocol readCommand kindOf withoutLeadingZeros orOneZero pathOf replyLength replied replyWith crc mirrored bits remainder message modulo
+due : (h : Header) → IsCommand (unit 0) (arrived write-0 1) h → length (replyDue (unit 0) (arrived write-0 1) (lent memory buffer) h Success) ≡ 8
+unfolding takePacket bare judged decidedOn decidedByData plannedFor headerStatus openingStatus spanStatus spanSize isAuthorised wantedCount dataStatus replyCount stored dataFor repliedTo changed countedFor usable usableUnit readPacket readProtocol readCommand kindOf withoutLeadingZeros orOneZero pathOf replyLength replied replyWith crc mirrored bits remainder message modulo
 due h is =
-    let same = one-command (readPacket write-0 0xF0 .reading) (partsAt write-0 4) h refl is in
+    let same = one-command (readOf (unit 0) (arrived write-0 1) .reading) (partsAt write-0 4) h refl is in
     let eight : length (replyDue (unit 0) (arrived write-0 1) (lent memory buffer) (partsAt write-0 4) Success) ≡ 8 = refl in
     ap (λ (k : Header). length (replyDue (unit 0) (arrived write-0 1) (lent memory buffer) k Success)) same ∙ eight
 
 replies-nothing-shut-out : RowByRow repliesNothing → ⊥
-unfolding takePacket judged decidedOn decidedByData plannedFor headerStatus openingStatus spanStatus spanSize isAuthorised wantedCount dataStatus replyCount stored dataFor repliedTo changed countedFor usable usableUnit readPacket readProtocol readCommand kindOf withoutLeadingZeros orOneZero pathOf replyLength replied replyWith crc mirrored bits remainder message modulo
+unfolding takePacket bare judged decidedOn decidedByData plannedFor headerStatus openingStatus spanStatus spanSize isAuthorised wantedCount dataStatus replyCount stored dataFor repliedTo changed countedFor usable usableUnit readPacket readProtocol readCommand kindOf withoutLeadingZeros orOneZero pathOf replyLength replied replyWith crc mirrored bits remainder message modulo
 replies-nothing-shut-out meets =
     let row : Leaves (Replied Success) (unit 0) (arrived write-0 1) (lent memory buffer) (repliesNothing .packet (unit 0) (arrived write-0 1) (lent memory buffer)) =
     meets (unit 0) (arrived write-0 1) (lent memory buffer) write-0-bytes in
@@ -228,7 +229,7 @@ not-fifteen : (u : TheUnit) (p : Arrived) (lent : Lent) (h : Header) → IsComma
 not-fifteen u p lent h is =
     packet-is u p lent (λ o. eqb (fateNumber (o .answer .fate)) 15 ≡ false) (λ e. refl) (λ e f. refl)
     (λ e f why g. absurd (not-command (Refused why) (omega arith) (sym g ∙ is))) (λ e f g. refl) (λ e f g t. refl)
-    (λ e f k g. command-fate u k (pathIn u p) p lent (λ f. eqb (fateNumber f) 15 ≡ false) refl (λ s. refl) (λ s e. refl) refl)
+    (λ e f k g. command-fate u k (pathIn u p) (asRead p) lent (λ f. eqb (fateNumber f) 15 ≡ false) refl (λ s. refl) (λ s e. refl) refl)
 
 pub refused-alone-lets-by : RefusedAloneLetsBy
 refused-alone-lets-by u p lent h is guarded status = rw (not-fifteen u p lent h is) (refused-changes-none u p lent h is guarded status)
@@ -247,4 +248,8 @@ impostors-shut-out = (
   ahead-moves-more,
   ahead-by-ticks,
   ahead-in-order,
+  reads-the-zero-shut-out,
+  reads-the-zero-no-rows,
+  shifts-data-shut-out,
+  shifts-data-no-rows,
 )

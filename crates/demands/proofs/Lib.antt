@@ -12,10 +12,12 @@ pub mod Steps
 pub mod ListsHold
 pub mod CountsHold
 pub mod SecondsHold
+pub mod ZeroHolds
 pub mod NamesHold
 pub mod CasesHold
 pub mod OutcomesHold
 pub mod Witnesses
 pub mod SecondsShown
-pub mod ImpostorsShown
 pub mod OnlyOurs
+pub mod ZeroShown
+pub mod ImpostorsShown

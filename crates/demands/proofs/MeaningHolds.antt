@@ -7,13 +7,12 @@ use Prim.Native.Nat.{ℕ}
 use borrow.Author.Tests.{eqb-true}
 use Rattle.packets.specs.Instruction.{isRmw, isWrite, isVerified, headerSize}
 use Rattle.packets.specs.Header.{kindIn}
-use Rattle.packets.specs.Reading.{readPacket}
 use Rattle.packets.specs.declared.instruction.Kind.{Kind}
 use Rattle.packets.specs.declared.instruction.Kind.the-variants.{Unused, Read, ReadModifyWrite, Write}
 use Rattle.packets.specs.declared.header.Header.{Header}
 use Rattle.packets.specs.declared.path.Path.{Path}
 use Rattle.unit.specs.Fate.{byteOf, isSuccess, fateStatus}
-use Rattle.unit.specs.Given.{Arrived, Lent}
+use Rattle.unit.specs.Given.{Arrived, asRead, Lent}
 use Rattle.unit.specs.Decide.{wantedCount, allAtHand, dataCount, dataStatusOf}
 use Rattle.unit.specs.Plan.{unansweredFate}
 use Rattle.unit.specs.Act.{stored}
@@ -31,7 +30,7 @@ use Rattle.unit.proofs.CallLaws.{as-judged}
 use Rattle.unit.proofs.MemoryLaws.{storing-kind, refused-stores}
 use Rattle.packets.proofs.ReadingLaws.{one-command}
 use Rattle.demands.proofs.BoundsHold.{storing-bit}
-use Rattle.demands.specs.Terminal.{ours, IsCommand, pathIn}
+use Rattle.demands.specs.Terminal.{ours, readOf, IsCommand, pathIn}
 use Rattle.demands.specs.Refusals.{writtenTo}
 use Rattle.demands.specs.Meaning.{ByteByByte, PacketPromise, TimeCodePromise, TicksPromise, JudgePromise, AsJudged, StoresWith, KeepsOrStores, OnlyStoresChange, RefusedChangesNone}
 
@@ -61,14 +60,14 @@ module _ (u : TheUnit) (p : Arrived) (lent : Lent) (h : Header) (read : IsComman
   path = pathIn u p
 
   abbrev status : Status
-  status = dataStatusOf h p
+  status = dataStatusOf h (asRead p)
 
   abbrev left : List ℕ
-  left = stored (memoryActionIn h p) (p .packet) (lent .memory)
+  left = stored (memoryActionIn h (asRead p)) (asRead p .packet) (lent .memory)
 
   obeyed : isSuccess status ≡ true → (left ≡ lent .memory) ⊎ StoresWith h (Byte (byteOf status))
   obeyed f =
-      go (storing-kind (kindIn h) h status (p .packet) (lent .memory) (headerSize (h .instruction)) (dataCount h (allAtHand h p)))
+      go (storing-kind (kindIn h) h status (asRead p .packet) (lent .memory) (headerSize (h .instruction)) (dataCount h (allAtHand h (asRead p))))
     where
       go : (left ≡ lent .memory) ⊎ ((kindIn h ≡ Write) ⊎ (kindIn h ≡ ReadModifyWrite)) → (left ≡ lent .memory) ⊎ StoresWith h (Byte (byteOf status))
       go (inl same) = inl same
@@ -79,13 +78,13 @@ module _ (u : TheUnit) (p : Arrived) (lent : Lent) (h : Header) (read : IsComman
     where
       stores : left ≡ cond (isWrite (h .instruction) && not (isVerified (h .instruction))) (writtenTo h p lent) (lent .memory)
       stores =
-          refused-stores (kindIn h) h status (p .packet) (lent .memory) (headerSize (h .instruction)) (dataCount h (allAtHand h p)) f ∙ rw (write-bit-is h)
+          refused-stores (kindIn h) h status (asRead p .packet) (lent .memory) (headerSize (h .instruction)) (dataCount h (allAtHand h (asRead p))) f ∙ rw (write-bit-is h)
 
       go : (w v : Bool) → isWrite (h .instruction) ≡ w → isVerified (h .instruction) ≡ v → (left ≡ lent .memory) ⊎ StoresWith h (Byte (byteOf status))
       go false v e g = inl (rw e at stores)
       go true true e g = inl (rw (e, g) at stores)
       go true false e g =
-          inr (inr (e, g, (byteOf status, refl, data-refuses (dataCount h (allAtHand h p)) (allAtHand h p .dataCrc) (wantedCount h) (p .end) f)))
+          inr (inr (e, g, (byteOf status, refl, data-refuses (dataCount h (allAtHand h (asRead p))) (allAtHand h (asRead p) .dataCrc) (wantedCount h) (p .end) f)))
 
   -- with a reply or without one
   told : h .protocol ≡ 0x01 → (fate : Fate) → fateStatus fate ≡ Byte (byteOf status) → (left ≡ lent .memory) ⊎ StoresWith h (Byte (byteOf status))
@@ -93,9 +92,9 @@ module _ (u : TheUnit) (p : Arrived) (lent : Lent) (h : Header) (read : IsComman
   told e fate s (inl same) = inl same
   told e fate s (inr with) = inr (h, read, e, rw s with)
 
-  command-changes : KeepsOrStores u p lent (takeCommand u h path p lent)
+  command-changes : KeepsOrStores u p lent (takeCommand u h path (asRead p) lent)
   command-changes =
-      command-is u h path p lent (KeepsOrStores u p lent) (inl refl) (λ e. (λ w. inl refl, λ w. inl refl))
+      command-is u h path (asRead p) lent (KeepsOrStores u p lent) (inl refl) (λ e. (λ w. inl refl, λ w. inl refl))
       (λ e a. (λ w. told e (Replied status) refl by-status, λ w. told e (unansweredFate status) (silent (isSuccess status) refl) by-status))
       (λ e a. (λ w. inl refl, λ w. inl refl))
     where
@@ -134,4 +133,4 @@ refused-changes-none u p lent h is guarded other = go (only-stores-change u p le
     go (inr stores) =
         let k = stores .0 in
         absurd (other (guarded-zero k (fateStatus (takePacket u p lent .answer .fate))
-        (rw (one-command (readPacket (p .packet) (u .number) .reading) h k is (stores .1)) guarded) (stores .3)))
+        (rw (one-command (readOf u p .reading) h k is (stores .1)) guarded) (stores .3)))

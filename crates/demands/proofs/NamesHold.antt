@@ -10,7 +10,6 @@ use lib.Dec.{eqb, ltb}
 use lib.ListN.{length}
 use Rattle.octets.proofs.PlaceLaws.{first-true, second-true}
 use Rattle.packets.specs.Header.{kindIn}
-use Rattle.packets.specs.Reading.{readPacket}
 use Rattle.packets.specs.declared.header.Header.{Header}
 use Rattle.packets.specs.declared.path.Path.{Path}
 use Rattle.packets.specs.declared.reading.Reading.the-variants.{Refused, Time, Command}
@@ -18,7 +17,7 @@ use Rattle.packets.proofs.ReadingLaws.{not-command, one-command}
 use Rattle.unit.specs.Some.{some}
 use Rattle.unit.specs.Fate.{byteOf, isSuccess, fateNumber, fateStatus}
 use Rattle.unit.specs.Fields.{fieldOf, aboveField, above, named, missing, rowOf, isMissing}
-use Rattle.unit.specs.Given.{Arrived, Lent}
+use Rattle.unit.specs.Given.{Arrived, asRead, Lent}
 use Rattle.unit.specs.Decide.{openingStatus, fieldCount, namesFields, fieldsStatus, headerStatus}
 use Rattle.unit.specs.Plan.{unansweredFate}
 use Rattle.unit.specs.Calls.{Outcome, takePacket}
@@ -33,7 +32,7 @@ use Rattle.unit.proofs.CommandLaws.{takeCommand, packet-is, command-is}
 use Rattle.unit.proofs.GrantLaws.{authorised-window, authorised-extended}
 use Rattle.demands.proofs.Below.{below}
 use Rattle.demands.proofs.NumbersHold.{one-two-three}
-use Rattle.demands.specs.Terminal.{ours}
+use Rattle.demands.specs.Terminal.{readOf, ours}
 use Rattle.demands.specs.Refusals.{lengthDue}
 use Rattle.demands.specs.Names.{register, RowsKept, NamesMissing, MissingRefused, MissingIsF1, WindowWithRight, ObeyedInWindow}
 
@@ -102,17 +101,17 @@ pub obeyed-in-window : ObeyedInWindow ours
 obeyed-in-window u p lent h is rmap =
     packet-is u p lent Q (λ e z. absurd (no-status z)) (λ e f z. absurd (no-status z)) (λ e f why g z. absurd (no-status z)) (λ e f g z. absurd (no-status z))
     (λ e f g t z. absurd (no-status z))
-    (λ e f k g. command k (one-command (readPacket (p .packet) (u .number) .reading) h k is g))
+    (λ e f k g. command k (one-command (readOf u p .reading) h k is g))
   where
     path : Path
-    path = readPacket (p .packet) (u .number) .path
+    path = readOf u p .path
 
     Q : Outcome → Type 0
     Q o = fateStatus (o .answer .fate) ≡ Byte 0 → WindowWithRight u h
 
-    command : (k : Header) → k ≡ h → Q (takeCommand u k path p lent)
+    command : (k : Header) → k ≡ h → Q (takeCommand u k path (asRead p) lent)
     command k e = rw e (
-        command-is u h path p lent Q (λ z. absurd (no-status z))
+        command-is u h path (asRead p) lent Q (λ z. absurd (no-status z))
         (λ a. (λ w z. absurd (refused-other (headerStatus u h path (p .link)) a z), λ w z. absurd (silent-other (headerStatus u h path (p .link)) a z)))
         (λ q a. let held = window a in (λ w z. held, λ w z. held)) (λ q a. absurd (q rmap)))
       where
@@ -123,10 +122,10 @@ obeyed-in-window u p lent h is rmap =
 
 -- ---- fields
 
-module _ (u : TheUnit) (p : Arrived) (lent : Lent) (h : Header) (is : readPacket (p .packet) (u .number) .reading ≡ Command h)
+module _ (u : TheUnit) (p : Arrived) (lent : Lent) (h : Header) (is : readOf u p .reading ≡ Command h)
     (fields : h .protocol ≡ 0x03) (lacks : NamesMissing h) where
   abbrev path : Path
-  path = readPacket (p .packet) (u .number) .path
+  path = readOf u p .path
 
   other : h .protocol ≡ 0x01 → ⊥
   other e = omega (arith, sym e ∙ fields)
@@ -139,9 +138,9 @@ module _ (u : TheUnit) (p : Arrived) (lent : Lent) (h : Header) (is : readPacket
   abbrev NotZero : Outcome → Type 0
   NotZero o = fateStatus (o .answer .fate) ≢ Byte 0
 
-  command-refused : NotZero (takeCommand u h path p lent)
+  command-refused : NotZero (takeCommand u h path (asRead p) lent)
   command-refused =
-      command-is u h path p lent NotZero no-status
+      command-is u h path (asRead p) lent NotZero no-status
       (λ a. (λ w. refused-other (headerStatus u h path (p .link)) a, λ w. silent-other (headerStatus u h path (p .link)) a)) (λ q a. absurd (other q)) (λ q a. absurd (lacking a))
 
   -- by F1, if nothing before it refused it
@@ -152,28 +151,28 @@ module _ (u : TheUnit) (p : Arrived) (lent : Lent) (h : Header) (is : readPacket
   unfolding headerStatus fieldsStatus
   is-f1 o n = rw (ne-eqb (h .protocol) 0x01 other, o, n, names-missing h lacks)
 
-  command-f1 : isSuccess (openingStatus h 0x00 0xFE) ≡ true → namesFields h ≡ true → SaysF1 (takeCommand u h path p lent)
+  command-f1 : isSuccess (openingStatus h 0x00 0xFE) ≡ true → namesFields h ≡ true → SaysF1 (takeCommand u h path (asRead p) lent)
   command-f1 o n =
       let f = is-f1 o n in
-      command-is u h path p lent SaysF1 (λ room. absurd (room refl)) (λ a. (λ w room. rw f, λ w room. rw f)) (λ q a. absurd (other q)) (λ q a. absurd (lacking a))
+      command-is u h path (asRead p) lent SaysF1 (λ room. absurd (room refl)) (λ a. (λ w room. rw f, λ w room. rw f)) (λ q a. absurd (other q)) (λ q a. absurd (lacking a))
 
 pub missing-refused : MissingRefused ours
 missing-refused u p lent h is fields lacks =
     packet-is u p lent (λ o. fateStatus (o .answer .fate) ≢ Byte 0) (λ e. no-status) (λ e f. no-status) (λ e f why g. no-status) (λ e f g. no-status)
     (λ e f g t. no-status)
-    (λ e f k g. rw (one-command (readPacket (p .packet) (u .number) .reading) h k is g) (command-refused u p lent h is fields lacks))
+    (λ e f k g. rw (one-command (readOf u p .reading) h k is g) (command-refused u p lent h is fields lacks))
 
 pub missing-is-f1 : MissingIsF1 ours
 missing-is-f1 u p lent h is fields lacks works there o n fits =
     packet-is u p lent (SaysF1 u p lent h is fields lacks) (λ e. absurd (false≢true (sym e ∙ works))) (λ e f. absurd (false≢true (sym f ∙ there)))
     (λ e f why g. absurd (not-command (Refused why) (omega arith) (sym g ∙ is))) (λ e f g. absurd (not-command Time (omega arith) (sym g ∙ is)))
     (λ e f g t. absurd (not-command Time (omega arith) (sym g ∙ is)))
-    (λ e f k g. rw (one-command (readPacket (p .packet) (u .number) .reading) h k is g) (command-f1 u p lent h is fields lacks o n)) room
+    (λ e f k g. rw (one-command (readOf u p .reading) h k is g) (command-f1 u p lent h is fields lacks o n)) room
   where
     room : fateNumber (takePacket u p lent .answer .fate) ≡ 3 → ⊥
     room three =
         let due = one-two-three u p lent .2 .0 three .2 in
-        let same = one-command (readPacket (p .packet) (u .number) .reading) h (due .0) is (due .1) in
+        let same = one-command (readOf u p .reading) h (due .0) is (due .1) in
         let long : length (lent .reply) < lengthDue u p h = rw same at (due .3) in
         let short = fits (rw same at (due .2)) in
         omega (arith, long, short)

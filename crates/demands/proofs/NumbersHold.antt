@@ -6,7 +6,7 @@ use Prim.Native.Nat.{ℕ, _%_, _^_, _≤_}
 use native.Mathlib.Omega.{arith}
 use lib.Dec.{eqb}
 use lib.ListN.{length}
-use Rattle.packets.specs.Reading.{numberOf, readPacket}
+use Rattle.packets.specs.Reading.{numberOf}
 use Rattle.packets.specs.declared.header.Header.{Header}
 use Rattle.packets.specs.declared.reading.Reading.the-variants.{Refused, Time}
 use Rattle.packets.specs.declared.reading.Refusal.{Refusal}
@@ -16,7 +16,7 @@ use Rattle.unit.specs.Fate.{byteOf, fateNumber, fateStatus}
 use Rattle.unit.specs.Clock.{afterCode, afterTicks}
 use Rattle.unit.specs.Usable.{usable}
 use Rattle.unit.specs.Act.{withClock}
-use Rattle.unit.specs.Given.{Arrived, Lent}
+use Rattle.unit.specs.Given.{Arrived, asRead, Lent}
 use Rattle.unit.specs.Decide.{allAtHand}
 use Rattle.unit.specs.Judge.{isLink}
 use Rattle.unit.specs.Calls.{takePacket, smallCall, takeTimeCode, takeTicks}
@@ -32,7 +32,7 @@ use Rattle.unit.proofs.PlanLaws.{plan-status, roomless-plan}
 use Rattle.unit.proofs.CommandLaws.{takeCommand, packet-is, small-is, command-fate}
 use Rattle.unit.proofs.UsableLaws.{code-is}
 use Rattle.packets.proofs.ReadingLaws.{not-command, one-command}
-use Rattle.demands.specs.Terminal.{ours, IsCommand, pathIn}
+use Rattle.demands.specs.Terminal.{ours, readOf, IsCommand, pathIn}
 use Rattle.demands.specs.Refusals.{LacksRoom, Exactly, OneTwoThree, SmallRow, ByCode, ByTicks, SmallRows, numbers, statuses, Carries, Listed}
 
 -- ---- 1 goes before 2, 2 before all else; and 3
@@ -54,15 +54,15 @@ module _ (u : TheUnit) (p : Arrived) (lent : Lent) where
   never e f n high none = later e f n (omega (arith, high)) (λ k. absurd (omega (arith, k, high)), λ g. absurd (none (g .0) (g .1)))
 
   -- a command
-  command-three : (h : Header) → IsCommand u p h → (fateNumber (takeCommand u h (pathIn u p) p lent .answer .fate) ≡ 3) ↔ (LacksRoom u p lent)
+  command-three : (h : Header) → IsCommand u p h → (fateNumber (takeCommand u h (pathIn u p) (asRead p) lent .answer .fate) ≡ 3) ↔ (LacksRoom u p lent)
   unfolding takeCommand
   command-three h is =
       let path = pathIn u p in
-      let plan = roomless-plan u h path (allAtHand h p) (p .end) (p .link) (length (lent .reply)) in
-      let status = plan-status u h path (allAtHand h p) (p .end) (p .link) (length (lent .reply)) in (
+      let plan = roomless-plan u h path (allAtHand h (asRead p)) (p .end) (p .link) (length (lent .reply)) in
+      let status = plan-status u h path (allAtHand h (asRead p)) (p .end) (p .link) (length (lent .reply)) in (
         λ n. let x = plan .0 n in (h, is, x .0, rw status at (x .1)),
         λ too.
-            let same = one-command (readPacket (p .packet) (u .number) .reading) h (too .0) is (too .1) in
+            let same = one-command (readOf u p .reading) h (too .0) is (too .1) in
             plan .1 (rw same at (too .2), rw status (rw same at (too .3))),
       )
 
@@ -82,8 +82,8 @@ module _ (u : TheUnit) (p : Arrived) (lent : Lent) where
       (λ e f why g. never e f (numberOf why) (unread-number why .0) (λ h is. not-command (Refused why) (omega arith) (sym g ∙ is)))
       (λ e f g. never e f 16 (omega arith) (λ h is. not-command Time (omega arith) (sym g ∙ is)))
       (λ e f g t. never e f 19 (omega arith) (λ h is. not-command Time (omega arith) (sym g ∙ is)))
-      (λ e f h g. later e f (fateNumber (takeCommand u h (pathIn u p) p lent .answer .fate))
-      (command-fate u h (pathIn u p) p lent (λ f. 3 ≤ fateNumber f) (omega arith) (λ s. omega arith) (λ s e. omega arith) (omega arith))
+      (λ e f h g. later e f (fateNumber (takeCommand u h (pathIn u p) (asRead p) lent .answer .fate))
+      (command-fate u h (pathIn u p) (asRead p) lent (λ f. 3 ≤ fateNumber f) (omega arith) (λ s. omega arith) (λ s e. omega arith) (omega arith))
       (command-three h g))
 
 pub one-two-three : OneTwoThree ours
@@ -139,5 +139,5 @@ pub listed : Listed ours
 listed u p lent =
     packet-is u p lent (λ o. Lists (o .answer .fate)) (λ e. (refl, refl)) (λ e f. (refl, refl)) (λ e f why g. unread-listed why)
     (λ e f g. (refl, refl)) (λ e f g t. (refl, refl))
-    (λ e f h g. command-fate u h (pathIn u p) p lent Lists (refl, refl) (λ s. (refl, (refl, status-listed s)))
+    (λ e f h g. command-fate u h (pathIn u p) (asRead p) lent Lists (refl, refl) (λ s. (refl, (refl, status-listed s)))
     (λ s e. (refl, (refl, status-listed s))) (refl, (refl, refl)))

@@ -12,7 +12,7 @@ use lib.ListN.{length}
 use Rattle.octets.specs.Places.{placed}
 use Rattle.packets.specs.Instruction.{wantsReply}
 use Rattle.packets.specs.Header.{kindIn}
-use Rattle.packets.specs.Reading.{numberOf, readPacket}
+use Rattle.packets.specs.Reading.{numberOf}
 use Rattle.packets.specs.Time.{readTime}
 use Rattle.packets.specs.declared.header.Header.{Header}
 use Rattle.packets.specs.declared.reading.Reading.{Reading}
@@ -23,7 +23,7 @@ use Rattle.unit.specs.Fate.{isSuccess, fateNumber}
 use Rattle.unit.specs.Clock.{afterTime, afterCode, afterTicks}
 use Rattle.unit.specs.Usable.{usable}
 use Rattle.unit.specs.Act.{withClock}
-use Rattle.unit.specs.Given.{Arrived, Lent}
+use Rattle.unit.specs.Given.{Arrived, asRead, Lent}
 use Rattle.unit.specs.Judge.{isLink}
 use Rattle.unit.specs.Calls.{Outcome, withoutReply, leaving, takePacket, smallCall, takeTimeCode, takeTicks}
 use Rattle.unit.specs.declared.fate.Status.{Status}
@@ -36,7 +36,7 @@ use Rattle.unit.specs.declared.calls.Answer.{Answer}
 use Rattle.unit.specs.declared.unit.Unit.{Unit as TheUnit}
 use Rattle.unit.proofs.FateLaws.{unread-number}
 use Rattle.packets.proofs.ReadingLaws.{one-command}
-use Rattle.demands.specs.Terminal.{IsCommand}
+use Rattle.demands.specs.Terminal.{readOf, IsCommand}
 use Rattle.demands.specs.ReplyDue.{replyDue}
 use Rattle.demands.specs.Refusals.{countedAs, obeyedBy, obeyedOn, refusedOn, statusDue, lengthDue, Obeys, Leaves, Exactly, SmallRow, ByCode, ByTicks}
 use Rattle.demands.specs.Only.{OnlyOurs}
@@ -121,14 +121,14 @@ module _ (u : TheUnit) (p : Arrived) (lent : Lent) where
   -- past 1 and 2, by its reading
   abbrev dueAs : Reading → Outcome
   dueAs (Refused why) = ending (Unread why) (countedAs (numberOf why) u) (lent .memory) (lent .reply) 0
-  dueAs Time = timeDue (readTime (p .packet) (p .end) (u .logical) (u .number))
+  dueAs Time = timeDue (readTime (asRead p .packet) (p .end) (u .logical) (u .number))
   dueAs (Command h) =
       cond (wantsReply (h .instruction))
       (cond (ltb (length (lent .reply)) (lengthDue u p h)) (leaving (withoutReply NoRoom u) lent) (spokenDue h (statusDue u p h)))
       (silentDue h (statusDue u p h))
 
   abbrev read : Reading
-  read = readPacket (p .packet) (u .number) .reading
+  read = readOf u p .reading
 
   abbrev works : Bool
   works = usable u (length (lent .memory))

@@ -50,6 +50,7 @@ packets-determined = (
   λ κs a z z′ e e′ p q. p ∙ sym q,
   λ κs a z z′ e e′ p q. p ∙ sym q,
   λ κs a z z′ e e′ p q. p ∙ sym q,
+  λ κs a z z′ e e′ p q. p ∙ sym q,
   λ κs a z z′ e e′ p q. p .0 ∙ sym (q .0),
   λ κs a z z′ e e′ p q. p .1 ∙ sym (q .1),
   λ κs a z z′ e e′ p q. p .0 ∙ sym (q .0),
@@ -105,7 +106,7 @@ pub octets-ask-nothing : OctetsAskNothing
 octets-ask-nothing = (λ κs a. tt, λ κs a. tt, λ κs a. tt, λ κs a. tt, λ κs a. tt, λ κs a. tt, λ κs a. tt, λ κs a. tt, λ κs a. tt, λ κs a. tt, λ κs a. tt, λ κs a. tt, λ κs a. tt, λ κs a. tt, λ κs a. tt)
 
 pub packets-ask-nothing : PacketsAskNothing
-packets-ask-nothing = (λ κs a. tt, λ κs a. tt, λ κs a. tt, λ κs a. tt, λ κs a. tt, λ κs a. tt, λ κs a. tt, λ κs a. tt, λ κs a. tt, λ κs a. tt, λ κs a. tt, λ κs a. tt, λ κs a. tt, λ κs a. tt, λ κs a. tt, λ κs a. tt, λ κs a. tt, λ κs a. tt, λ κs a. tt, λ κs a. tt, λ κs a. tt, λ κs a. tt, λ κs a. tt, λ κs a. tt, λ κs a. tt, λ κs a. tt, λ κs a. tt)
+packets-ask-nothing = (λ κs a. tt, λ κs a. tt, λ κs a. tt, λ κs a. tt, λ κs a. tt, λ κs a. tt, λ κs a. tt, λ κs a. tt, λ κs a. tt, λ κs a. tt, λ κs a. tt, λ κs a. tt, λ κs a. tt, λ κs a. tt, λ κs a. tt, λ κs a. tt, λ κs a. tt, λ κs a. tt, λ κs a. tt, λ κs a. tt, λ κs a. tt, λ κs a. tt, λ κs a. tt, λ κs a. tt, λ κs a. tt, λ κs a. tt, λ κs a. tt, λ κs a. tt)
 
 pub unit-asks-nothing : UnitAsksNothing
 unit-asks-nothing = (λ κs a. tt, λ κs a. tt, λ κs a. tt, λ κs a. tt, λ κs a. tt, λ κs a. tt, λ κs a. tt)

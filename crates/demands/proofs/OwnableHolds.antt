@@ -20,7 +20,7 @@ use Rattle.unit.specs.Fate.{isSuccess}
 use Rattle.unit.specs.Clock.{setAt, afterTime}
 use Rattle.unit.specs.Owner.{isOwner, unowned, swapped}
 use Rattle.unit.specs.Fields.{deviceId, missing, rowOf, valuesOf, dividerWritten}
-use Rattle.unit.specs.Given.{Arrived, Lent}
+use Rattle.unit.specs.Given.{Arrived, asRead, Lent}
 use Rattle.unit.specs.Decide.{isAllowed, headerStatus}
 use Rattle.unit.specs.Act.{withOwner, withFields}
 use Rattle.unit.specs.Calls.{takePacket}
@@ -90,7 +90,7 @@ module _ (u : TheUnit) (p : Arrived) (lent : Lent) where
 
   module _ (h : Header) (read : IsCommand u p h) (other : h .protocol ≡ 0x01 → ⊥) (accepted : isSuccess (headerStatus u h path (p .link)) ≡ true) where
     known : h .protocol ≡ 0x03
-    known = protocol-other (p .packet) (u .number) h read other
+    known = protocol-other (asRead p .packet) (u .number) h read other
 
     allowed : isAllowed (kindIn h) (u .owner) (h .initiator) path (p .link) ≡ true
     allowed = named-passed (u .owner) h path (p .link) (fields-passed u h path (p .link) other accepted) .3
@@ -146,7 +146,7 @@ pub owner-is-swapped : OwnerIsSwapped ours
 owner-is-swapped u p lent other =
     go (unit-is u p lent Swapped (λ f v x. x) (inl refl) (λ w t g. inl refl)
     (λ w there h g q a. (
-      λ k new expected. inr (h, g, protocol-other (p .packet) (u .number) h g q, rw k, on-device u p h q a k),
+      λ k new expected. inr (h, g, protocol-other (asRead p .packet) (u .number) h g q, rw k, on-device u p h q a k),
       λ k word. (inl refl, inl refl),
     )))
   where

@@ -21,7 +21,7 @@ use Rattle.unit.specs.Some.{some}
 use Rattle.unit.specs.Fate.{byteOf, isSuccess}
 use Rattle.unit.specs.Counters.{countedFor}
 use Rattle.unit.specs.Usable.{usable}
-use Rattle.unit.specs.Given.{Arrived, Lent}
+use Rattle.unit.specs.Given.{Arrived, asRead, Lent}
 use Rattle.unit.specs.Decide.{rmwCount, headerStatus, wantedCount, allAtHand, dataCount, dataStatusOf}
 use Rattle.unit.specs.Plan.{actionOf, fieldActionOf, memoryAction}
 use Rattle.unit.specs.Act.{stored, dataFor, changed, countedUnit}
@@ -44,7 +44,7 @@ use Rattle.demands.proofs.RepliesHold.{command-says}
 
 module _ (u : TheUnit) (h : Header) (p : Arrived) where
   abbrev after : Bool → Kind → TheUnit
-  after t kind = changed (cond t (fieldActionOf kind h (p .packet) (headerSize (h .instruction))) Nothing) u (h .initiator) (pathIn u p) (p .link)
+  after t kind = changed (cond t (fieldActionOf kind h (asRead p .packet) (headerSize (h .instruction))) Nothing) u (h .initiator) (pathIn u p) (p .link)
 
   obeyed-unit : (t : Bool) (kind : Kind) → t ≡ true → after t kind ≡ obeyedBy kind u h p
   unfolding changed
@@ -63,12 +63,12 @@ module _ (u : TheUnit) (h : Header) (p : Arrived) where
 
 -- obeyed
 obeyed-memory : (kind : Kind) (h : Header) (s : Status) (p : Arrived) (lent : Lent) → isSuccess s ≡ true
-    → stored (actionOf kind h s (headerSize (h .instruction)) (dataCount h (allAtHand h p))) (p .packet) (lent .memory) ≡ obeyedOn kind h p lent
-obeyed-memory Unused h s p lent e = nothing-stores (p .packet) (lent .memory)
-obeyed-memory Read h s p lent e = read-stores (h .instruction) s (h .address) (h .length) (p .packet) (lent .memory)
-obeyed-memory ReadModifyWrite h s p lent e = rmw-stores s (h .address) (headerSize (h .instruction)) (rmwCount h) (p .packet) (lent .memory) ∙ rw e
+    → stored (actionOf kind h s (headerSize (h .instruction)) (dataCount h (allAtHand h (asRead p)))) (asRead p .packet) (lent .memory) ≡ obeyedOn kind h p lent
+obeyed-memory Unused h s p lent e = nothing-stores (asRead p .packet) (lent .memory)
+obeyed-memory Read h s p lent e = read-stores (h .instruction) s (h .address) (h .length) (asRead p .packet) (lent .memory)
+obeyed-memory ReadModifyWrite h s p lent e = rmw-stores s (h .address) (headerSize (h .instruction)) (rmwCount h) (asRead p .packet) (lent .memory) ∙ rw e
 obeyed-memory Write h s p lent e =
-    write-stores (h .instruction) s (h .address) (headerSize (h .instruction)) (min (dataCount h (allAtHand h p)) (h .length)) (p .packet) (lent .memory)
+    write-stores (h .instruction) s (h .address) (headerSize (h .instruction)) (min (dataCount h (allAtHand h (asRead p))) (h .length)) (asRead p .packet) (lent .memory)
     ∙ rw e (go (isVerified (h .instruction)))
   where
     go : (v : Bool) → cond (v && false) (lent .memory) (writtenTo h p lent) ≡ writtenTo h p lent
@@ -77,9 +77,9 @@ obeyed-memory Write h s p lent e =
 
 -- refused, by its data
 refused-memory : (h : Header) (s : Status) (p : Arrived) (lent : Lent) → h .protocol ≡ 0x01 → isSuccess s ≡ false → some (eqb (byteOf s)) (4 ∷ 5 ∷ 6 ∷ 7 ∷ []) ≡ true
-    → stored (memoryAction h s (headerSize (h .instruction)) (dataCount h (allAtHand h p))) (p .packet) (lent .memory) ≡ refusedOn h s p lent
+    → stored (memoryAction h s (headerSize (h .instruction)) (dataCount h (allAtHand h (asRead p)))) (asRead p .packet) (lent .memory) ≡ refusedOn h s p lent
 refused-memory h s p lent e f g =
-    refused-stores (kindIn h) h s (p .packet) (lent .memory) (headerSize (h .instruction)) (dataCount h (allAtHand h p)) f
+    refused-stores (kindIn h) h s (asRead p .packet) (lent .memory) (headerSize (h .instruction)) (dataCount h (allAtHand h (asRead p))) f
     ∙ rw (eq-eqb (h .protocol) 0x01 e, g, write-bit-is h, and-true (writes (kindIn h) && not (isVerified (h .instruction))))
 
 -- refused by its header, or a field command
@@ -126,18 +126,18 @@ module _ (u : TheUnit) (p : Arrived) (lent : Lent) (h : Header) (read : IsComman
   unfolding countedFor
   fields-done s v d e due q left = (
     λ w written. (
-      λ f. (h, read, w, rw due at e, inr (protocol-other (p .packet) (u .number) h read q, ap (countedAs 20) left, refl)),
+      λ f. (h, read, w, rw due at e, inr (protocol-other (asRead p .packet) (u .number) h read q, ap (countedAs 20) left, refl)),
       λ f. absurd (false≢true (sym f ∙ e)),
       written s refl,
     ),
     λ w. rw e (λ written. (
-      (h, read, w, rw due at e, inr (protocol-other (p .packet) (u .number) h read q, ap (countedAs 18) left, refl)),
+      (h, read, w, rw due at e, inr (protocol-other (asRead p .packet) (u .number) h read q, ap (countedAs 18) left, refl)),
       (refl, refl),
     )),
   )
 
   abbrev status : Status
-  status = dataStatusOf h p
+  status = dataStatusOf h (asRead p)
 
   -- past the header the data decide
   module _ (accepted : isSuccess first ≡ true) where
@@ -145,7 +145,7 @@ module _ (u : TheUnit) (p : Arrived) (lent : Lent) (h : Header) (read : IsComman
     due = rw accepted
 
     abbrev MemoryRow : Type 0
-    MemoryRow = Rows status u (stored (memoryActionIn h p) (p .packet) (lent .memory)) (dataFor (memoryActionIn h p) u (p .link) (lent .memory))
+    MemoryRow = Rows status u (stored (memoryActionIn h (asRead p)) (asRead p .packet) (lent .memory)) (dataFor (memoryActionIn h (asRead p)) u (p .link) (lent .memory))
 
     memory-row : h .protocol ≡ 0x01 → MemoryRow
     memory-row e = go (isSuccess status) refl
@@ -154,14 +154,14 @@ module _ (u : TheUnit) (p : Arrived) (lent : Lent) (h : Header) (read : IsComman
         go true f = memory-done status _ _ f due e (obeyed-memory (kindIn h) h status p lent f)
         go false f =
             refused-row status _ _ f due
-            (refused-memory h status p lent e f (data-refuses (dataCount h (allAtHand h p)) (allAtHand h p .dataCrc) (wantedCount h) (p .end) f))
+            (refused-memory h status p lent e f (data-refuses (dataCount h (allAtHand h (asRead p))) (allAtHand h (asRead p) .dataCrc) (wantedCount h) (p .end) f))
 
     fields-row : (h .protocol ≡ 0x01 → ⊥)
-        → Rows status (changed (fieldActionIn h p) u (h .initiator) path (p .link)) (lent .memory) (dataFor (fieldActionIn h p) u (p .link) (lent .memory))
+        → Rows status (changed (fieldActionIn h (asRead p)) u (h .initiator) path (p .link)) (lent .memory) (dataFor (fieldActionIn h (asRead p)) u (p .link) (lent .memory))
     fields-row e = go (isSuccess status) refl
       where
         d : List ℕ
-        d = dataFor (fieldActionIn h p) u (p .link) (lent .memory)
+        d = dataFor (fieldActionIn h (asRead p)) u (p .link) (lent .memory)
 
         go : (t : Bool) → isSuccess status ≡ t → Rows status (after u h p (isSuccess status) (kindIn h)) (lent .memory) d
         go true f = fields-done status (after u h p (isSuccess status) (kindIn h)) d f due e (obeyed-unit u h p (isSuccess status) (kindIn h) f)
@@ -170,9 +170,9 @@ module _ (u : TheUnit) (p : Arrived) (lent : Lent) (h : Header) (read : IsComman
             (refused-row status (lent .memory) d f due (field-memory h status p lent e))
 
   command-row : usable u (length (lent .memory)) ≡ true → Digits 256 (p .packet)
-      → Leaves (takeCommand u h path p lent .answer .fate) u p lent (takeCommand u h path p lent)
+      → Leaves (takeCommand u h path (asRead p) lent .answer .fate) u p lent (takeCommand u h path (asRead p) lent)
   command-row works bytes =
-      command-is u h path p lent Row (λ w. (refl, refl, (refl, refl)))
+      command-is u h path (asRead p) lent Row (λ w. (refl, refl, (refl, refl)))
       (λ e. refused-row first (lent .memory) [] e (rw e) (header-memory h first p lent (header-gives u h path (p .link)))) (λ q a. memory-row a q) (λ q a. fields-row a q)
       (λ s e. command-says u p lent s bytes h read works e)
 

@@ -19,7 +19,7 @@ use Rattle.packets.specs.declared.instruction.Kind.the-variants.{Unused, Read, 
 use Rattle.packets.specs.declared.header.Header.{Header}
 use Rattle.unit.specs.Fate.{byteOf, isSuccess, fateNumber}
 use Rattle.unit.specs.Usable.{usable}
-use Rattle.unit.specs.Given.{Arrived, Lent}
+use Rattle.unit.specs.Given.{Arrived, asRead, Lent}
 use Rattle.unit.specs.Decide.{rmwCount, allAtHand, dataCount, dataStatusOf}
 use Rattle.unit.specs.Plan.{actionOf, fieldActionOf, decided}
 use Rattle.unit.specs.Act.{dataFor}
@@ -32,6 +32,7 @@ use Rattle.unit.proofs.PlanLaws.{replied-plan, carried-plan}
 use Rattle.unit.proofs.ReplyLaws.{reply-written}
 use Rattle.unit.proofs.CommandLaws.{takeCommand, packet-is}
 use Rattle.unit.proofs.MemoryLaws.{read-data, rmw-data, write-data}
+use Rattle.packets.proofs.BareLaws.{bare-bytes}
 use Rattle.packets.proofs.ReadingLaws.{header-whole, length-below}
 use Rattle.demands.specs.Terminal.{ours, IsCommand, pathIn}
 use Rattle.demands.specs.ReplyDue.{memoryData, fieldData, dataDue, replyDue, ReplyBytes}
@@ -85,19 +86,19 @@ module _ (u : TheUnit) (p : Arrived) (lent : Lent) (s : Status) (bytes : Digits 
         go false true e = f e
         go false false e = refl
 
-    pub command-says : usable u (length (lent .memory)) ≡ true → Says (takeCommand u h (pathIn u p) p lent)
+    pub command-says : usable u (length (lent .memory)) ≡ true → Says (takeCommand u h (pathIn u p) (asRead p) lent)
     unfolding takeCommand replyWith
     command-says works e =
         let path = pathIn u p in
-        let plan = decided u h path p (length (lent .reply)) in
+        let plan = decided u h path (asRead p) (length (lent .reply)) in
         let d = dataFor (plan .action) u (p .link) (lent .memory) in
-        let w = reply-written u h path p lent works (header-whole (p .packet) (u .number) h read) (length-below (p .packet) (u .number) h read bytes) (ap fateNumber e) in
-        let t = replied-plan u h path (allAtHand h p) (p .end) (p .link) (length (lent .reply)) s e in
+        let w = reply-written u h path (asRead p) lent works (header-whole (asRead p .packet) (u .number) h read) (length-below (asRead p .packet) (u .number) h read (bare-bytes (p .packet) bytes)) (ap fateNumber e) in
+        let t = replied-plan u h path (allAtHand h (asRead p)) (p .end) (p .link) (length (lent .reply)) s e in
         let same : carried h (byteOf s) d ≡ dataDue u p lent h s = due d (λ f.
-        carried-plan u h path (allAtHand h p) (p .end) (p .link) (length (lent .reply)) (λ a. dataFor a u (p .link) (lent .memory) ≡ answered)
-        (λ q g. memory-data (kindIn h) u h (p .link) (dataStatusOf h p) (headerSize (h .instruction)) (dataCount h (allAtHand h p)) (lent .memory) g
+        carried-plan u h path (allAtHand h (asRead p)) (p .end) (p .link) (length (lent .reply)) (λ a. dataFor a u (p .link) (lent .memory) ≡ answered)
+        (λ q g. memory-data (kindIn h) u h (p .link) (dataStatusOf h (asRead p)) (headerSize (h .instruction)) (dataCount h (allAtHand h (asRead p))) (lent .memory) g
         ∙ rw (eq-eqb (h .protocol) 0x01 q))
-        (λ q g. rw (g, ne-eqb (h .protocol) 0x01 q) (field-data (kindIn h) u h (p .link) (p .packet) (headerSize (h .instruction)) (lent .memory)))
+        (λ q g. rw (g, ne-eqb (h .protocol) 0x01 q) (field-data (kindIn h) u h (p .link) (asRead p .packet) (headerSize (h .instruction)) (lent .memory)))
         (ap fateNumber e) (rw (t .0) f)) in
         let reply : replyOf path h (byteOf (plan .status)) d ≡ replyDue u p lent h s =
         ap (λ (x : Status). replyOf path h (byteOf x) d) (t .0) ∙ ap (λ (c : List ℕ). replyWith path h (byteOf s) c) same in

@@ -4,7 +4,7 @@ use mathlib.Core.List.{[], _∷_}
 use Rattle.octets.specs.Crc.{crc, mirrored, bits, remainder, message, modulo}
 use Rattle.packets.specs.Instruction.{kindOf}
 use Rattle.packets.specs.Path.{withoutLeadingZeros, orOneZero, pathOf}
-use Rattle.packets.specs.Reading.{readCommand, readProtocol, readPacket}
+use Rattle.packets.specs.Reading.{bare, readCommand, readProtocol, readPacket}
 use Rattle.packets.specs.Reply.{replyWith, replyLength, replied}
 use Rattle.packets.specs.Time.{readTime}
 use Rattle.unit.specs.Counters.{countedFor}
@@ -20,7 +20,7 @@ use Rattle.demands.specs.Terminal.{ours}
 use Rattle.demands.specs.Refusals.{NoRowEmpty}
 
 pub no-row-empty : NoRowEmpty ours
-unfolding takePacket judged decidedOn decidedByData plannedFor headerStatus openingStatus spanStatus spanSize isAuthorised wantedCount dataStatus replyCount stored dataFor repliedTo changed countedFor usable usableUnit readPacket readProtocol readCommand readTime afterTime kindOf withoutLeadingZeros orOneZero pathOf replyLength replied replyWith crc mirrored bits remainder message modulo
+unfolding takePacket bare judged decidedOn decidedByData plannedFor headerStatus openingStatus spanStatus spanSize isAuthorised wantedCount dataStatus replyCount stored dataFor repliedTo changed countedFor usable usableUnit readPacket readProtocol readCommand readTime afterTime kindOf withoutLeadingZeros orOneZero pathOf replyLength replied replyWith crc mirrored bits remainder message modulo
 no-row-empty = (
   -- 1 no memory; 2 link 0; 3 no room
   (unit 0, arrived write-0 1, lent [] buffer, refl),

@@ -11,7 +11,6 @@ use lib.ListN.{length, getD}
 use Rattle.octets.proofs.PlaceLaws.{first-true, second-true}
 use Rattle.packets.specs.Instruction.{isRmw, isWrite, headerSize}
 use Rattle.packets.specs.Header.{kindIn}
-use Rattle.packets.specs.Reading.{readPacket}
 use Rattle.packets.specs.Reply.{replied}
 use Rattle.packets.specs.declared.instruction.Kind.the-variants.{ReadModifyWrite, Write}
 use Rattle.packets.specs.declared.header.Header.{Header}
@@ -21,7 +20,7 @@ use Rattle.packets.specs.declared.reading.Reading.the-variants.{Command}
 use Rattle.unit.specs.Fate.{byteOf, isSuccess, fateStatus}
 use Rattle.unit.specs.Counters.{countedFor}
 use Rattle.unit.specs.Usable.{usable}
-use Rattle.unit.specs.Given.{Arrived, Lent}
+use Rattle.unit.specs.Given.{Arrived, asRead, Lent}
 use Rattle.unit.specs.Decide.{spanSize, headerStatus, wantedCount, allAtHand, dataCount, dataStatusOf}
 use Rattle.unit.specs.Plan.{unansweredFate}
 use Rattle.unit.specs.Act.{stored, dataFor, countedUnit}
@@ -36,16 +35,21 @@ use Rattle.unit.proofs.DecideLaws.{write-bit, data-is}
 use Rattle.unit.proofs.PlanLaws.{memoryActionIn}
 use Rattle.unit.proofs.CommandLaws.{packets-are, packet-is, commands-are, command-is}
 use Rattle.unit.proofs.MemoryLaws.{memory-outside, span-data, span-stored, storing-kind}
+use Rattle.packets.proofs.BareLaws.{bare-rmap}
 use Rattle.packets.proofs.ReadingLaws.{header-whole, protocol-read, no-time}
 use Rattle.demands.proofs.Weave.{Keeps}
-use Rattle.demands.specs.Terminal.{ours}
+use Rattle.demands.specs.Terminal.{readOf, ours}
 use Rattle.demands.specs.Lists.{Sent, Rmap, State, lentFor, Heard, heardOf, nextOf, refersToNone, inSpan, refers, isStore, stores}
+
+-- a packet whose protocol is 01 is read as it is
+second-read : (p : Arrived) → getD (p .packet) 1 0 ≡ 0x01 → getD (asRead p .packet) 1 0 ≡ 0x01
+second-read p rmap = ap (λ (b : List ℕ). getD b 1 0) (bare-rmap (p .packet) rmap) ∙ rmap
 
 -- ---- a memory command whose header is accepted refers to its span, whatever its data
 
-data-refers : (h : Header) (p : Arrived) → refersToNone (Byte (byteOf (dataStatusOf h p))) ≡ false
+data-refers : (h : Header) (p : Arrived) → refersToNone (Byte (byteOf (dataStatusOf h (asRead p)))) ≡ false
 data-refers h p =
-    data-is (λ s. refersToNone (Byte (byteOf s)) ≡ false) (dataCount h (allAtHand h p)) (allAtHand h p .dataCrc) (wantedCount h) (p .end) refl refl refl refl refl
+    data-is (λ s. refersToNone (Byte (byteOf s)) ≡ false) (dataCount h (allAtHand h (asRead p))) (allAtHand h (asRead p) .dataCrc) (wantedCount h) (p .end) refl refl refl refl refl
 
 silent-refers : (s : Status) → refersToNone (Byte (byteOf s)) ≡ false → refersToNone (fateStatus (unansweredFate s)) ≡ false
 silent-refers s e = go (isSuccess s)
@@ -64,10 +68,10 @@ module _ (s : State) (c : Sent) (rmap : Rmap c) where
   on m = takePacket u (c .arrived) (lentFor c m)
 
   abbrev read : Reading
-  read = readPacket (c .arrived .packet) (u .number) .reading
+  read = readOf u (c .arrived) .reading
 
   abbrev path : Path
-  path = readPacket (c .arrived .packet) (u .number) .path
+  path = readOf u (c .arrived) .path
 
   -- fate and length of the reply are the same on every memory of one length
   pub same-fate : (m k : List ℕ) → length m ≡ length k → (on m .answer .fate ≡ on k .answer .fate) × (on m .answer .length ≡ on k .answer .length)
@@ -95,10 +99,10 @@ module _ (s : State) (c : Sent) (rmap : Rmap c) where
       go true true f g e = absurd (false≢true (sym e))
 
   abbrev status : Header → Status
-  status h = dataStatusOf h (c .arrived)
+  status h = dataStatusOf h (asRead (c .arrived))
 
   abbrev after : Header → List ℕ → List ℕ
-  after h m = stored (memoryActionIn h (c .arrived)) (c .arrived .packet) m
+  after h m = stored (memoryActionIn h (asRead (c .arrived))) (asRead (c .arrived) .packet) m
 
   spoken-refers : (h : Header) → refersToNone (fateStatus (Replied (status h))) ≡ false
   spoken-refers h = data-refers h (c .arrived)
@@ -107,7 +111,7 @@ module _ (s : State) (c : Sent) (rmap : Rmap c) where
   byte-stays : (m : List ℕ) → length m ≡ length (s .memory) → (i : ℕ) → stores s c i ≡ false → getD (on m .memory) i 0 ≡ getD m i 0
   byte-stays m l i kept =
       packet-is u (c .arrived) (lentFor c m) Q (λ e g. refl) (λ e f g. refl) (λ e f why b g. refl) (λ e f b g. refl) (λ e f b t g. refl)
-      (λ e f h b. command-is u h path (c .arrived) (lentFor c m) Q (λ g. refl) (λ a. (λ w g. refl, λ w g. refl))
+      (λ e f h b. command-is u h path (asRead (c .arrived)) (lentFor c m) Q (λ g. refl) (λ a. (λ w g. refl, λ w g. refl))
       (λ p a. (λ w g. stays e h b p a (Replied (status h)) (spoken-refers h) g, λ w g. stays e h b p a (unansweredFate (status h)) (silent-refers (status h) (spoken-refers h)) g))
       (λ p a. (λ w g. refl, λ w g. refl)))
       (same-fate m (s .memory) l .0)
@@ -118,13 +122,13 @@ module _ (s : State) (c : Sent) (rmap : Rmap c) where
       stays : usable u (length m) ≡ true → (h : Header) → read ≡ Command h → h .protocol ≡ 0x01 → isSuccess (headerStatus u h path (c .arrived .link)) ≡ true
           → (f : Fate) → refersToNone (fateStatus f) ≡ false → f ≡ on (s .memory) .answer .fate → getD (after h m) i 0 ≡ getD m i 0
       stays works h is rmap accepted f r has =
-          go (storing-kind (kindIn h) h (status h) (c .arrived .packet) m (headerSize (h .instruction)) (dataCount h (allAtHand h (c .arrived)))) (inSpan h i) refl (sym (stores-span h is f r has i) ∙ kept)
+          go (storing-kind (kindIn h) h (status h) (asRead (c .arrived) .packet) m (headerSize (h .instruction)) (dataCount h (allAtHand h (asRead (c .arrived))))) (inSpan h i) refl (sym (stores-span h is f r has i) ∙ kept)
         where
           go : (after h m ≡ m) ⊎ ((kindIn h ≡ Write) ⊎ (kindIn h ≡ ReadModifyWrite)) → (t : Bool) → inSpan h i ≡ t
               → ((isWrite (h .instruction) || isRmw (kindIn h)) && t) ≡ false → getD (after h m) i 0 ≡ getD m i 0
           go (inl same) t e k = ap (λ (x : List ℕ). getD x i 0) same
           go (inr kind) false e k =
-              memory-outside u h path (c .arrived) m works (header-whole (c .arrived .packet) (u .number) h is) rmap accepted i (outside h i e)
+              memory-outside u h path (asRead (c .arrived)) m works (header-whole (asRead (c .arrived) .packet) (u .number) h is) rmap accepted i (outside h i e)
           go (inr (inl kind)) true e k = absurd (false≢true (sym k ∙ rw (write-bit h kind)))
           go (inr (inr kind)) true e k = absurd (false≢true (sym k ∙ rw (kind, or-true (isWrite (h .instruction)))))
 
@@ -141,14 +145,14 @@ module _ (s : State) (c : Sent) (rmap : Rmap c) where
       in-alike : (i : ℕ) → h .address ≤ i → i < h .address + spanSize h → getD m i 0 ≡ getD k i 0
       in-alike i b l = alike i (refers-span h is f r has i ∙ in-span h i b l)
 
-      same-data : dataFor (memoryActionIn h (c .arrived)) u (c .arrived .link) m ≡ dataFor (memoryActionIn h (c .arrived)) u (c .arrived .link) k
+      same-data : dataFor (memoryActionIn h (asRead (c .arrived))) u (c .arrived .link) m ≡ dataFor (memoryActionIn h (asRead (c .arrived))) u (c .arrived .link) k
       same-data =
-          span-data u h path (c .arrived) m works (header-whole (c .arrived .packet) (u .number) h is) p accepted k (lm ∙ sym lk) in-alike
+          span-data u h path (asRead (c .arrived)) m works (header-whole (asRead (c .arrived) .packet) (u .number) h is) p accepted k (lm ∙ sym lk) in-alike
 
       same-bytes : (i : ℕ) → refers s c i ≡ true → getD (after h m) i 0 ≡ getD (after h k) i 0
       same-bytes i e =
           let there : inSpan h i ≡ true = sym (refers-span h is f r has i) ∙ e in
-          span-stored u h path (c .arrived) m works (header-whole (c .arrived .packet) (u .number) h is) p accepted k (lm ∙ sym lk) in-alike i
+          span-stored u h path (asRead (c .arrived)) m works (header-whole (asRead (c .arrived) .packet) (u .number) h is) p accepted k (lm ∙ sym lk) in-alike i
           (leb-true (h .address) i (first-true (leb (h .address) i) (ltb i (h .address + spanSize h)) there))
           (ltb-true i (h .address + spanSize h) (second-true (leb (h .address) i) (ltb i (h .address + spanSize h)) there))
 
@@ -156,7 +160,7 @@ module _ (s : State) (c : Sent) (rmap : Rmap c) where
     same-outcome =
         packets-are u (c .arrived) (lentFor c m) k (lm ∙ sym lk) Same (λ e g. same) (λ e f g. same) (λ e f why b g. same) (λ e f b w g. same)
         (λ e f b t w g. same)
-        (λ e f h b. commands-are u h path (c .arrived) (lentFor c m) k Same (λ g. same) (λ a. (λ w g. same, λ w g. same))
+        (λ e f h b. commands-are u h path (asRead (c .arrived)) (lentFor c m) k Same (λ g. same) (λ a. (λ w g. same, λ w g. same))
         (λ p a. (
           λ w g. (
             ap (λ (d : List ℕ). replied path h (byteOf (status h)) d (c .buffer)) (same-data e h b a (Replied (status h)) (spoken-refers h) g p),
@@ -164,7 +168,7 @@ module _ (s : State) (c : Sent) (rmap : Rmap c) where
           ),
           λ w g. (refl, same-bytes e h b a (unansweredFate (status h)) (silent-refers (status h) (spoken-refers h)) g p),
         ))
-        (λ p a. absurd (p (protocol-read (c .arrived .packet) (u .number) h b ∙ rmap))))
+        (λ p a. absurd (p (protocol-read (asRead (c .arrived) .packet) (u .number) h b ∙ second-read (c .arrived) rmap))))
         (same-fate m (s .memory) lm .0)
       where
         same : {A : Type 0} {x : A} → (x ≡ x) × ((i : ℕ) → refers s c i ≡ true → getD m i 0 ≡ getD k i 0)
@@ -183,7 +187,7 @@ pub keeps : (s : State) (c : Sent) → Rmap c → Keeps (tells s) (leaves s) (re
 unfolding stores
 keeps s c rmap = record {
   long = λ m l. packet-length (s .unit) (c .arrived) (lentFor c m) .0 ∙ l;
-  within = λ i e. rw e (and-false (isStore (readPacket (c .arrived .packet) (s .unit .number) .reading)));
+  within = λ i e. rw e (and-false (isStore (readOf (s .unit) (c .arrived) .reading)));
   frame = λ m i l kept. byte-stays s c rmap m l i kept;
   same = λ m k lm lk alike.
       let f = same-fate s c rmap m k (lm ∙ sym lk) in
@@ -197,9 +201,9 @@ pub only-counted : (u : TheUnit) (p : Arrived) (lent : Lent) → getD (p .packet
     → takePacket u p lent .answer .unit ≡ countedUnit (takePacket u p lent .answer .fate) u
 unfolding countedFor
 only-counted u p lent rmap =
-    packet-is u p lent Q (λ e. refl) (λ e f. refl) (λ e f why g. refl) (λ e f g. refl) (λ e f g t. absurd (no-time (p .packet) (u .number) rmap g))
-    (λ e f h g. command-is u h (readPacket (p .packet) (u .number) .path) p lent Q refl (λ a. (λ w. refl, λ w. refl)) (λ q a. (λ w. refl, λ w. refl))
-    (λ q a. absurd (q (protocol-read (p .packet) (u .number) h g ∙ rmap))))
+    packet-is u p lent Q (λ e. refl) (λ e f. refl) (λ e f why g. refl) (λ e f g. refl) (λ e f g t. absurd (no-time (asRead p .packet) (u .number) (second-read p rmap) g))
+    (λ e f h g. command-is u h (readOf u p .path) (asRead p) lent Q refl (λ a. (λ w. refl, λ w. refl)) (λ q a. (λ w. refl, λ w. refl))
+    (λ q a. absurd (q (protocol-read (asRead p .packet) (u .number) h g ∙ second-read p rmap))))
   where
     Q : Outcome → Type 0
     Q o = o .answer .unit ≡ countedUnit (o .answer .fate) u

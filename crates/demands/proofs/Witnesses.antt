@@ -66,7 +66,7 @@ write-0 =
     0xFE ∷ 0x01 ∷ 0x6C ∷ 0x2A ∷ 0x67 ∷ 0x00 ∷ 0x01 ∷ 0x00 ∷ 0x00 ∷ 0x00 ∷ 0x00 ∷ 0x00 ∷ 0x00 ∷ 0x00 ∷ 0x02 ∷ 0xA0 ∷ 0x61 ∷ 0x62 ∷ 0xB8 ∷ []
 
 -- it is bytes, by a test that computes
-tested : (ds : List ℕ) → some (leb 256) ds ≡ false → Digits 256 ds
+pub tested : (ds : List ℕ) → some (leb 256) ds ≡ false → Digits 256 ds
 tested [] e = tt
 tested (d ∷ ds) e = go (leb 256 d) refl e (tested ds)
   where

@@ -1,4 +1,4 @@
--- Document 01's 'Cases by hand', in one table; and beside it the cases of the Time-Code's wrap, which request 3 of document 02 asks for.
+-- Document 01's 'Cases by hand', in one table; and beside it the cases of the Time-Code's wrap (document 02, 3) and of a zero in front (document 02, 2).
 use mathlib.Core.Path.{_≡_}
 use mathlib.Core.Bool.{true}
 use mathlib.Core.List.{List, [], _∷_}
@@ -33,6 +33,12 @@ Instructs byte kind =
 abbrev pub Gets : List ℕ → ℕ → Type 0
 Gets p number =
     (u : TheUnit) (end : End) (link : ℕ) (lent : Lent) → usable u (length (lent .memory)) ≡ true → isLink u link ≡ true
+    → fateNumber (takePacket u (record { packet = p; end = end; link = link }) lent .answer .fate) ≡ number
+
+-- The same, from those with some time number.
+abbrev pub GetsAt : ℕ → List ℕ → ℕ → Type 0
+GetsAt timeNumber p number =
+    (u : TheUnit) (end : End) (link : ℕ) (lent : Lent) → usable u (length (lent .memory)) ≡ true → isLink u link ≡ true → u .number ≡ timeNumber
     → fateNumber (takePacket u (record { packet = p; end = end; link = link }) lent .answer .fate) ≡ number
 
 abbrev pub HandCases : Type 0
@@ -83,3 +89,25 @@ WrapCases =
     × WrapMakes NoValue 0xFFFFFFFF000000 0xFFFFFFFF000000
     -- a waiting value wins on both sides of the half
     × ((w : Elapsed) → WrapMakes (Value w) 0x00000007800000 (w .value) × WrapMakes (Value w) 0x000000077FFFFF (w .value))
+
+abbrev pub ZeroCases : Type 0
+ZeroCases =
+    -- 00 FE 03 by itself is incomplete, as FE 03 is
+    Gets (0x00 ∷ 0xFE ∷ 0x03 ∷ []) 11
+    × Gets (0xFE ∷ 0x03 ∷ []) 11
+    -- a header without its CRC, which with the zero has sixteen bytes; with a wrong CRC; and a reply
+    × Gets (0x00 ∷ 0xFE ∷ 0x03 ∷ 0x4C ∷ 0x00 ∷ 0x67 ∷ 0x00 ∷ 0x01 ∷ 0x00 ∷ 0x00 ∷ 0x00 ∷ 0x00 ∷ 0x00 ∷ 0x00 ∷ 0x00 ∷ 0x04 ∷ []) 11
+    × Gets (0x00 ∷ 0xFE ∷ 0x03 ∷ 0x4C ∷ 0x00 ∷ 0x67 ∷ 0x00 ∷ 0x01 ∷ 0x00 ∷ 0x00 ∷ 0x00 ∷ 0x00 ∷ 0x00 ∷ 0x00 ∷ 0x00 ∷ 0x04 ∷ 0x71 ∷ []) 15
+    × Gets (0x00 ∷ 0xFE ∷ 0x03 ∷ 0x0C ∷ []) 14
+    -- two zeros
+    × Gets (0x00 ∷ 0x00 ∷ 0xFE ∷ 0x03 ∷ []) 13
+    -- what else begins with 00 goes by its second byte, RMAP too: a time number, or unknown
+    × Gets (0x00 ∷ []) 11
+    × GetsAt 0xFE (0x00 ∷ 0xFE ∷ []) 16
+    × GetsAt 0xFE (0x00 ∷ 0xFE ∷ 0x01 ∷ []) 16
+    × GetsAt 0xF0 (0x00 ∷ 0xFE ∷ []) 12
+    × GetsAt 0xF0 (0x00 ∷ 0xFE ∷ 0x01 ∷ []) 12
+    × Gets (0x00 ∷ 0x43 ∷ 0x03 ∷ []) 12
+    -- and so does another byte in front of FE 03
+    × GetsAt 0xFE (0x01 ∷ 0xFE ∷ 0x03 ∷ []) 16
+    × GetsAt 0xF0 (0x01 ∷ 0xFE ∷ 0x03 ∷ []) 12

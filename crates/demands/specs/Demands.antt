@@ -1,14 +1,15 @@
--- The customer's three demands, each in one place, of any terminal. The parts stand in Refusals and Bounds (1), Meaning (2), Lists (3), Counts, Names and Seconds;
+-- The customer's three demands, each in one place, of any terminal. The parts stand in Refusals and Bounds (1), Meaning (2), Lists (3), Counts, Names, Seconds and Zero;
 -- what is no matter of a terminal's answers, in Cases (hand cases), Outcomes (promises of every public function) and Impostors. That demand 1 leaves no room is
 -- said in Only.
 use Rattle.demands.specs.Terminal.{Terminal}
 use Rattle.demands.specs.Refusals.{RowByRow, OneTwoThree, SmallRows, Listed, NoRowEmpty}
 use Rattle.demands.specs.Bounds.{NeverStrays, SetUpStays, StaysUsable, ComesBack}
 use Rattle.demands.specs.Meaning.{ByteByByte, OnlyStoresChange, RefusedChangesNone, OwnableIsOwners, OwnerIsSwapped, FieldsAreOwners, OthersStay, Replies}
-use Rattle.demands.specs.Lists.{Merges}
+use Rattle.demands.specs.Lists.{NoneWithZero, Merges}
 use Rattle.demands.specs.Counts.{CountersAreHistory, LowCountNothing}
 use Rattle.demands.specs.Names.{RowsKept, MissingRefused, MissingIsF1, ObeyedInWindow}
 use Rattle.demands.specs.Seconds.{OthersLeaveTime, WrapMovesHalf, OneIsNearest, TicksAreSeconds, OneSecond, OneSecondInOrder, SomeTurn}
+use Rattle.demands.specs.Zero.{AsWithoutIt, OthersAsBefore, TakenOnce, WasRefused}
 
 -- 1. Any packet, any end marker, any lent memory: the terminal answers, never strays, always comes back; every refusal has its number, its
 -- reply and a fixed effect on memory, unit and reply buffer. (It checks for itself: `OctetsAskNothing`, `PacketsAskNothing`, `UnitAsksNothing`, in Outcomes.)
@@ -24,7 +25,7 @@ Demand2 t = ByteByByte t × OnlyStoresChange t × RefusedChangesNone t × Ownabl
 abbrev pub Demand3 : Terminal → Type 0
 Demand3 t = Merges t
 
--- Beside them: counters are the history, names are kept, and the Time-Code's wrap goes to the nearest second.
+-- Beside them: counters are the history, names are kept, the Time-Code's wrap goes to the nearest second, and a zero in front of plug-and-play is as if it weren't there.
 abbrev pub Histories : Terminal → Type 0
 Histories t = CountersAreHistory t × LowCountNothing t
 
@@ -33,3 +34,6 @@ NamesKept t = RowsKept × MissingRefused t × MissingIsF1 t × ObeyedInWindow t
 
 abbrev pub SecondsKept : Terminal → Type 0
 SecondsKept t = OthersLeaveTime t × WrapMovesHalf t × OneIsNearest × TicksAreSeconds t × OneSecond t × OneSecondInOrder t × SomeTurn t
+
+abbrev pub ZeroIgnored : Terminal → Type 0
+ZeroIgnored t = AsWithoutIt t × OthersAsBefore t × TakenOnce t × WasRefused × NoneWithZero

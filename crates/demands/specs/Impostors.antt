@@ -5,7 +5,6 @@ use mathlib.Core.List.{List, []}
 use Prim.Native.Nat.{ℕ, _+_, _%_, _^_}
 use lib.Dec.{eqb}
 use lib.ListN.{length, getD, replicate}
-use Rattle.packets.specs.Reading.{readPacket}
 use Rattle.packets.specs.Reply.{replyLength, replied}
 use Rattle.packets.specs.declared.header.Header.{Header}
 use Rattle.packets.specs.declared.path.Path.{Path}
@@ -16,15 +15,16 @@ use Rattle.unit.specs.Usable.{usable}
 use Rattle.unit.specs.Counters.{total}
 use Rattle.unit.specs.Clock.{secondsOf, timeOf, afterCode}
 use Rattle.unit.specs.Act.{withClock, withCounters, countedUnit}
-use Rattle.unit.specs.Given.{Arrived, Lent}
-use Rattle.unit.specs.Calls.{Outcome, withoutReply, leaving, takePacket, smallCall, takeTimeCode, takeTicks}
+use Rattle.unit.specs.Given.{Arrived, Lent, sizesOf}
+use Rattle.unit.specs.Judge.{judgedAs, isLink}
+use Rattle.unit.specs.Calls.{Outcome, withoutReply, leaving, done, takeRead, takePacket, smallCall, takeTimeCode, takeTicks}
 use Rattle.unit.specs.declared.fate.Status.the-variants.{Success, NotAuthorised}
 use Rattle.unit.specs.declared.fate.Fate.the-variants.{NotObeyed, Obeyed, Replied}
 use Rattle.unit.specs.declared.clock.Clock.{Clock}
 use Rattle.unit.specs.declared.clock.Waiting.{Waiting}
 use Rattle.unit.specs.declared.clock.Waiting.the-variants.{NoValue, Value}
 use Rattle.unit.specs.declared.unit.Unit.{Unit as TheUnit}
-use Rattle.demands.specs.Terminal.{Terminal, pathIn, Call, after, Every}
+use Rattle.demands.specs.Terminal.{Terminal, readOf, pathIn, Call, after, Every}
 use Rattle.demands.specs.ReplyDue.{Written}
 use Rattle.demands.specs.Refusals.{RowByRow}
 use Rattle.demands.specs.Bounds.{OfBytes, Lends, StaysUsable}
@@ -32,6 +32,8 @@ use Rattle.demands.specs.Meaning.{ByteByByte, OnlyStoresChange, RefusedC
 use Rattle.demands.specs.Lists.{Merges}
 use Rattle.demands.specs.Counts.{CountersAreHistory}
 use Rattle.demands.specs.Seconds.{WrapMovesHalf, OneSecond, OneSecondInOrder}
+use Rattle.demands.specs.Zero.{AsWithoutIt}
+use Rattle.demands.specs.Demands.{Demand1}
 
 -- A terminal that does something else with packets. Its small calls are ours.
 abbrev pub faking : (TheUnit → Arrived → Lent → Outcome) → Terminal
@@ -61,12 +63,12 @@ zeroTo Time u p lent = takePacket u p lent
 zeroTo (Command h) u p lent = acknowledged u h (pathIn u p) lent
 
 abbrev pub repliesZero : Terminal
-repliesZero = faking (λ u p lent. zeroTo (readPacket (p .packet) (u .number) .reading) u p lent)
+repliesZero = faking (λ u p lent. zeroTo (readOf u p .reading) u p lent)
 
 -- It obeys the first packet, which it knows by its total, and only acknowledges the rest.
 abbrev pub obeysFirst : Terminal
 obeysFirst = faking (λ u p lent.
-    cond (eqb (getD (u .counters) total 0) 0) (takePacket u p lent) (zeroTo (readPacket (p .packet) (u .number) .reading) u p lent))
+    cond (eqb (getD (u .counters) total 0) 0) (takePacket u p lent) (zeroTo (readOf u p .reading) u p lent))
 
 -- It invents its counters.
 abbrev pub invented : Outcome → Outcome
@@ -138,6 +140,16 @@ secondAhead = record {
   ticks = takeTicks;
 }
 
+-- It reads a zero in front of plug-and-play as if it were the address: document 01's terminal before request 2.
+abbrev pub readsTheZero : Terminal
+readsTheZero = faking takeRead
+
+-- It leaves the zero out where it reads the header, and not where it looks for the data behind that.
+abbrev pub shiftsData : Terminal
+shiftsData = faking (λ u p lent.
+    cond (usable u (length (lent .memory)) && isLink u (p .link))
+    (done (judgedAs (readOf u p) u p (sizesOf lent)) u (p .packet) (p .link) lent) (takePacket u p lent))
+
 -- ---- which demand shuts out which
 
 abbrev pub ShutsOut : (Terminal → Type 0) → Terminal → Type 0
@@ -146,7 +158,8 @@ ShutsOut Demand t = Demand t → ⊥
 -- Demand 2, which names status, reply and memory, for any unit and memory, shuts out the first four; demand 3, of whole lists, the fourth too; the
 -- history's counts the fifth. What only claims to reply is shut out by the rows of demand 1; what gives up, by the history of demand 1, in which memory of
 -- another length may be lent; what clears memory, by the part of demand 2 that says what changes it. What gets a second ahead is shut out by what is said of a wrap,
--- and of two, whether the Time-Codes between them are lost or come.
+-- and of two, whether the Time-Codes between them are lost or come. What does not take the zero off, or not everywhere, is shut out by what is said of it, and by
+-- demand 1 as well.
 abbrev pub ImpostorsShutOut : Type 0
 ImpostorsShutOut =
     ShutsOut ByteByByte refusesAll
@@ -161,6 +174,10 @@ ImpostorsShutOut =
     × ShutsOut WrapMovesHalf secondAhead
     × ShutsOut OneSecond secondAhead
     × ShutsOut OneSecondInOrder secondAhead
+    × ShutsOut AsWithoutIt readsTheZero
+    × ShutsOut Demand1 readsTheZero
+    × ShutsOut AsWithoutIt shiftsData
+    × ShutsOut Demand1 shiftsData
 
 -- Demand 3 alone would not do: one that does nothing does it in any order. It is asked beside demand 2.
 abbrev pub ThreeAloneLetsBy : Type 0

@@ -8,6 +8,7 @@ pub mod Meaning
 pub mod Lists
 pub mod Counts
 pub mod Seconds
+pub mod Zero
 pub mod Names
 pub mod Cases
 pub mod Outcomes

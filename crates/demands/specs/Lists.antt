@@ -7,7 +7,7 @@ use lib.Dec.{leb, ltb}
 use lib.ListN.{getD}
 use Rattle.packets.specs.Instruction.{isWrite, isRmw}
 use Rattle.packets.specs.Header.{kindIn}
-use Rattle.packets.specs.Reading.{readPacket}
+use Rattle.packets.specs.Reading.{bare}
 use Rattle.packets.specs.declared.header.Header.{Header}
 use Rattle.packets.specs.declared.reading.Reading.{Reading}
 use Rattle.packets.specs.declared.reading.Reading.the-variants.{Refused, Time, Command}
@@ -20,7 +20,7 @@ use Rattle.unit.specs.declared.fate.Fate.{Fate}
 use Rattle.unit.specs.declared.fate.Told.{Told}
 use Rattle.unit.specs.declared.fate.Told.the-variants.{Nothing, Byte}
 use Rattle.unit.specs.declared.unit.Unit.{Unit as TheUnit}
-use Rattle.demands.specs.Terminal.{Terminal, ours, Every}
+use Rattle.demands.specs.Terminal.{Terminal, ours, readOf, Every}
 
 -- ---- merging
 
@@ -43,9 +43,12 @@ pub record Sent : Type 0 where
   pub arrived : Arrived
   pub buffer : List ℕ
 
--- RMAP: the protocol is 01.
+-- RMAP: the protocol is 01, and that is the second byte as it arrived. So none of these packets begins with a zero that is not read: each is read as it is.
 abbrev pub Rmap : Sent → Type 0
 Rmap c = getD (c .arrived .packet) 1 0 ≡ 0x01
+
+abbrev pub NoneWithZero : Type 0
+NoneWithZero = (c : Sent) → Rmap c → bare (c .arrived .packet) ≡ c .arrived .packet
 
 -- A unit, and the memory that is lent to it from command to command.
 pub record State : Type 0 where
@@ -104,7 +107,7 @@ spanOf (Command h) i = inSpan h i
 -- part of what is shown.
 unfoldable pub refers : State → Sent → ℕ → Bool
 refers s c i =
-    not (refersToNone (fateStatus (outcomeOf ours s c .answer .fate))) && spanOf (readPacket (c .arrived .packet) (s .unit .number) .reading) i
+    not (refersToNone (fateStatus (outcomeOf ours s c .answer .fate))) && spanOf (readOf (s .unit) (c .arrived) .reading) i
 
 -- Whether it is a write or an RMW that refers to byte i.
 abbrev pub isStore : Reading → Bool
@@ -113,7 +116,7 @@ isStore Time = false
 isStore (Command h) = isWrite (h .instruction) || isRmw (kindIn h)
 
 unfoldable pub stores : State → Sent → ℕ → Bool
-stores s c i = isStore (readPacket (c .arrived .packet) (s .unit .number) .reading) && refers s c i
+stores s c i = isStore (readOf (s .unit) (c .arrived) .reading) && refers s c i
 
 -- No byte that a write or an RMW of one list refers to is referred to by any command of the other.
 abbrev pub Clear : State → List Sent → List Sent → Type 0

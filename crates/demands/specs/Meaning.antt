@@ -15,7 +15,7 @@ use Rattle.unit.specs.Some.{some}
 use Rattle.unit.specs.Fate.{fateStatus}
 use Rattle.unit.specs.Owner.{isOwner}
 use Rattle.unit.specs.Fields.{deviceId, timeCodeCounter, divider, missing, rowOf, valuesOf}
-use Rattle.unit.specs.Given.{Arrived, Lent, sizesOf}
+use Rattle.unit.specs.Given.{Arrived, asRead, Lent, sizesOf}
 use Rattle.unit.specs.Calls.{Outcome, takePacket, takeTimeCode, takeTicks}
 use Rattle.unit.specs.declared.fate.Status.{Status}
 use Rattle.unit.specs.declared.fate.Fate.the-variants.{Replied}
@@ -65,14 +65,14 @@ abbrev pub JudgePromise : Type 0
 JudgePromise =
     (κs : _) (unit : _) (bytes : _) (end : _) (link : _) (sizes : _) (judgement : _) (exit : _)
     → promise-of-judge κs (unit, (bytes, (end, (link, (sizes, tt))))) judgement exit
-    → judgement ≡ judged unit (record { packet = now bytes; end = end; link = link }) sizes
+    → judgement ≡ judged unit (asRead (record { packet = now bytes; end = end; link = link })) sizes
 
 -- What is judged is what becomes of the packet: its fate, with the status, and the length of the reply.
 abbrev pub AsJudged : Terminal → Type 0
 AsJudged t =
     (u : TheUnit) (p : Arrived) (lent : Lent)
-    → (t .packet u p lent .answer .fate ≡ fateIn (judged u p (sizesOf lent) .ruling))
-    × (t .packet u p lent .answer .length ≡ lengthIn (judged u p (sizesOf lent) .ruling))
+    → (t .packet u p lent .answer .fate ≡ fateIn (judged u (asRead p) (sizesOf lent) .ruling))
+    × (t .packet u p lent .answer .length ≡ lengthIn (judged u (asRead p) (sizesOf lent) .ruling))
 
 -- What follows are consequences of the equation that the customer named.
 

@@ -39,6 +39,7 @@ use Rattle.packets.proofs.path.Path.size.Reads.{Asked as asked·Path·size, Lea
 use Rattle.packets.proofs.path.Path.same.Reads.{Asked as asked·Path·same, Learnt as promise·Path·same}
 use Rattle.packets.proofs.reading.End.is_eop.Reads.{Asked as asked·End·is_eop, Learnt as promise·End·is_eop}
 use Rattle.packets.proofs.reading.Refusal.number.Reads.{Asked as asked·Refusal·number, Learnt as promise·Refusal·number}
+use Rattle.packets.proofs.bare.Reads.{Asked as asked·bare, Learnt as promise·bare}
 use Rattle.packets.proofs.read_packet.Reads.{Asked as asked·read_packet, Learnt as promise·read_packet}
 use Rattle.packets.proofs.reply_length.Reads.{Asked as asked·reply_length, Learnt as promise·reply_length}
 use Rattle.packets.proofs.write_reply.Reads.{Asked as asked·write_reply, Learnt as promise·write_reply}
@@ -133,6 +134,7 @@ PacketsDetermined =
     × (OneResult promise·Path·same)
     × (OneResult promise·End·is_eop)
     × (OneResult promise·Refusal·number)
+    × (OnePart promise·bare (λ κs z. now z))
     × (OneResult promise·read_packet)
     × (OneResult promise·reply_length)
     × (OneResult promise·write_reply)
@@ -221,6 +223,7 @@ PacketsAskNothing =
     × AsksNothing asked·Path·same
     × AsksNothing asked·End·is_eop
     × AsksNothing asked·Refusal·number
+    × AsksNothing asked·bare
     × AsksNothing asked·read_packet
     × AsksNothing asked·reply_length
     × AsksNothing asked·write_reply

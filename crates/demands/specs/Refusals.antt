@@ -26,7 +26,7 @@ use Rattle.unit.specs.Fate.{byteOf, isSuccess, orElse, fateNumber, fateStatus}
 use Rattle.unit.specs.Counters.{bumpedAt, total}
 use Rattle.unit.specs.Clock.{afterTime, afterCode, afterTicks}
 use Rattle.unit.specs.Usable.{usable, usableUnit}
-use Rattle.unit.specs.Given.{Arrived, Lent}
+use Rattle.unit.specs.Given.{Arrived, asRead, Lent}
 use Rattle.unit.specs.Decide.{rmwCount, headerStatus, wantedCount, dataStatus}
 use Rattle.unit.specs.Plan.{replyCount}
 use Rattle.unit.specs.Owner.{swapped}
@@ -52,10 +52,10 @@ countedAs number u = withCounters u (bumpedAt total (bumpedAt (number - 11) (u .
 
 -- The word that the data of a plug-and-play command begin with, behind the header, and the next one.
 abbrev pub firstWord : Header → Arrived → ℕ
-firstWord h p = number (part (headerSize (h .instruction)) 4 (p .packet))
+firstWord h p = number (part (headerSize (h .instruction)) 4 (asRead p .packet))
 
 abbrev pub secondWord : Header → Arrived → ℕ
-secondWord h p = number (part (headerSize (h .instruction) + 4) 4 (p .packet))
+secondWord h p = number (part (headerSize (h .instruction) + 4) 4 (asRead p .packet))
 
 -- What an obeyed plug-and-play command makes of the unit, by its kind: a swap has the new value first, the expected one second, and its sender is known by initiator
 -- address, reply path and link; a write has its word.
@@ -69,7 +69,7 @@ obeyedBy Write u h p = fieldWritten u (h .address) (firstWord h p)
 
 -- The first min(k, L) of the k bytes behind the header.
 abbrev pub firstData : Header → Arrived → List ℕ
-firstData h p = part (headerSize (h .instruction)) (min (length (p .packet) - headerSize (h .instruction)) (h .length)) (p .packet)
+firstData h p = part (headerSize (h .instruction)) (min (length (asRead p .packet) - headerSize (h .instruction)) (h .length)) (asRead p .packet)
 
 -- A write puts them into memory from A on; single, it leaves the last of them at A.
 abbrev pub writtenTo : Header → Arrived → Lent → List ℕ
@@ -79,8 +79,8 @@ writtenTo h p lent = placed (h .address) (cond (isIncrementing (h .instruction))
 abbrev pub combinedIn : Header → Arrived → Lent → List ℕ
 combinedIn h p lent =
     placed (h .address)
-    (combined (part (h .address) (rmwCount h) (lent .memory)) (part (headerSize (h .instruction)) (rmwCount h) (p .packet))
-    (part (headerSize (h .instruction) + rmwCount h) (rmwCount h) (p .packet))) (lent .memory)
+    (combined (part (h .address) (rmwCount h) (lent .memory)) (part (headerSize (h .instruction)) (rmwCount h) (asRead p .packet))
+    (part (headerSize (h .instruction) + rmwCount h) (rmwCount h) (asRead p .packet))) (lent .memory)
 
 -- What an obeyed RMAP command leaves in memory, by its kind.
 abbrev pub obeyedOn : Kind → Header → Arrived → Lent → List ℕ
@@ -110,14 +110,14 @@ NoReply lent o = (o .reply ≡ lent .reply) × (o .answer .length ≡ 0)
 abbrev pub statusDue : TheUnit → Arrived → Header → Status
 statusDue u p h =
     orElse (headerStatus u h (pathIn u p) (p .link))
-    (dataStatus (length (p .packet) - headerSize (h .instruction)) (crc (drop (headerSize (h .instruction)) (p .packet))) (wantedCount h) (p .end))
+    (dataStatus (length (asRead p .packet) - headerSize (h .instruction)) (crc (drop (headerSize (h .instruction)) (asRead p .packet))) (wantedCount h) (p .end))
 
 abbrev pub lengthDue : TheUnit → Arrived → Header → ℕ
 lengthDue u p h = replyLength (pathIn u p) h (byteOf (statusDue u p h)) (replyCount h)
 
 -- The packet is read as a time packet, thrown away or taken.
 abbrev pub TimeReadAs : TheUnit → Arrived → TimeReading → Type 0
-TimeReadAs u p time = ReadAs u p Time × (readTime (p .packet) (p .end) (u .logical) (u .number) ≡ time)
+TimeReadAs u p time = ReadAs u p Time × (readTime (asRead p .packet) (p .end) (u .logical) (u .number) ≡ time)
 
 -- ---- the rows
 

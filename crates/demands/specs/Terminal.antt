@@ -5,9 +5,10 @@ use Prim.Native.Nat.{ℕ}
 use Rattle.packets.specs.Reading.{readPacket}
 use Rattle.packets.specs.declared.header.Header.{Header}
 use Rattle.packets.specs.declared.path.Path.{Path}
+use Rattle.packets.specs.declared.reading.Packet.{Packet}
 use Rattle.packets.specs.declared.reading.Reading.{Reading}
 use Rattle.packets.specs.declared.reading.Reading.the-variants.{Command}
-use Rattle.unit.specs.Given.{Arrived, Lent}
+use Rattle.unit.specs.Given.{Arrived, asRead, Lent}
 use Rattle.unit.specs.Calls.{Outcome, takePacket, takeTimeCode, takeTicks}
 use Rattle.unit.specs.declared.fate.Fate.{Fate}
 use Rattle.unit.specs.declared.calls.Answer.{Answer}
@@ -26,15 +27,18 @@ ours = record { packet = takePacket; timeCode = takeTimeCode; ticks = takeTicks 
 
 -- ---- a packet to a unit
 
--- What it is read as; so as the command h, RMAP or plug-and-play; and its reply path.
+-- What the packet is, read without a zero in front; so as the command h, RMAP or plug-and-play; and its reply path.
+abbrev pub readOf : TheUnit → Arrived → Packet
+readOf u p = readPacket (asRead p .packet) (u .number)
+
 abbrev pub ReadAs : TheUnit → Arrived → Reading → Type 0
-ReadAs u p reading = readPacket (p .packet) (u .number) .reading ≡ reading
+ReadAs u p reading = readOf u p .reading ≡ reading
 
 abbrev pub IsCommand : TheUnit → Arrived → Header → Type 0
 IsCommand u p h = ReadAs u p (Command h)
 
 abbrev pub pathIn : TheUnit → Arrived → Path
-pathIn u p = readPacket (p .packet) (u .number) .path
+pathIn u p = readOf u p .path
 
 -- ---- histories
 

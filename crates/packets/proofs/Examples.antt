@@ -9,7 +9,7 @@ use Rattle.octets.specs.Crc.{crc, mirrored, bits, remainder, message, modulo}
 use Rattle.packets.specs.Instruction.{kindOf, codeOf, typeOf, isWrite, isVerified, wantsReply, isIncrementing, rOf, isUnused, isRead, isRmw}
 use Rattle.packets.specs.Instruction.{replyAddressSize, headerSize, replyForm}
 use Rattle.packets.specs.Path.{withoutLeadingZeros, orOneZero, pathOf, kept}
-use Rattle.packets.specs.Reading.{numberOf, refused, timePacket, readCommand, readProtocol, readPacket}
+use Rattle.packets.specs.Reading.{numberOf, bare, refused, timePacket, readCommand, readProtocol, readPacket}
 use Rattle.packets.specs.Reply.{replyWith, replyOf, replyLength, replyFits, replied}
 use Rattle.packets.specs.Time.{timeNumberOf, whenNumber, readTime}
 use Rattle.packets.specs.declared.instruction.Instruction.{Instruction}
@@ -265,6 +265,44 @@ reply-in-ten = refl
 reply-in-seven : replied (kept []) (annex-header 0x6C 0 0xA0000000) 0 [] (replicate 7 0xEE) ≡ replicate 7 0xEE
 unfolding replied replyLength replyWith pathOf
 reply-in-seven = refl
+
+-- ---- document 02, 2: the zero in front goes where FE 03 stands behind it, once, and nowhere else
+
+bares : map bare (
+    (0x00 ∷ 0xFE ∷ 0x03 ∷ [])
+    ∷ (0x00 ∷ 0xFE ∷ 0x03 ∷ 0x4C ∷ [])
+    ∷ (0x00 ∷ 0x00 ∷ 0xFE ∷ 0x03 ∷ [])
+    ∷ (0x00 ∷ 0xFE ∷ 0x00 ∷ [])
+    ∷ (0x00 ∷ 0xFE ∷ 0x01 ∷ 0x4C ∷ [])
+    ∷ (0x00 ∷ 0xFE ∷ 0x02 ∷ [])
+    ∷ (0x00 ∷ 0xFE ∷ 0xF0 ∷ [])
+    ∷ (0x00 ∷ 0xFD ∷ 0x03 ∷ [])
+    ∷ (0x00 ∷ 0x43 ∷ 0x03 ∷ 0x4C ∷ [])
+    ∷ (0x01 ∷ 0xFE ∷ 0x03 ∷ [])
+    ∷ (0xFE ∷ 0x03 ∷ 0x4C ∷ [])
+    ∷ (0xFE ∷ 0x00 ∷ 0xFE ∷ 0x03 ∷ [])
+    ∷ (0x00 ∷ 0xFE ∷ [])
+    ∷ (0x00 ∷ [])
+    ∷ []
+    ∷ [])
+    ≡ (0xFE ∷ 0x03 ∷ [])
+    ∷ (0xFE ∷ 0x03 ∷ 0x4C ∷ [])
+    ∷ (0x00 ∷ 0x00 ∷ 0xFE ∷ 0x03 ∷ [])
+    ∷ (0x00 ∷ 0xFE ∷ 0x00 ∷ [])
+    ∷ (0x00 ∷ 0xFE ∷ 0x01 ∷ 0x4C ∷ [])
+    ∷ (0x00 ∷ 0xFE ∷ 0x02 ∷ [])
+    ∷ (0x00 ∷ 0xFE ∷ 0xF0 ∷ [])
+    ∷ (0x00 ∷ 0xFD ∷ 0x03 ∷ [])
+    ∷ (0x00 ∷ 0x43 ∷ 0x03 ∷ 0x4C ∷ [])
+    ∷ (0x01 ∷ 0xFE ∷ 0x03 ∷ [])
+    ∷ (0xFE ∷ 0x03 ∷ 0x4C ∷ [])
+    ∷ (0xFE ∷ 0x00 ∷ 0xFE ∷ 0x03 ∷ [])
+    ∷ (0x00 ∷ 0xFE ∷ [])
+    ∷ (0x00 ∷ [])
+    ∷ []
+    ∷ []
+unfolding bare
+bares = refl
 
 -- ---- what a packet is read as: empty, FE 00, unknown, time, a reply, a header cut short, one with another CRC
 

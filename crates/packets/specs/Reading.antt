@@ -3,7 +3,7 @@ use mathlib.Core.Bool.{Bool, true, false, cond, _&&_, _||_}
 use mathlib.Core.List.{List, []}
 use Prim.Native.Nat.{ℕ, _+_}
 use lib.Dec.{eqb, leb, ltb}
-use lib.ListN.{length, getD, take}
+use lib.ListN.{length, getD, take, drop}
 use Rattle.octets.specs.Places.{part}
 use Rattle.octets.specs.Crc.{crc}
 use Rattle.packets.specs.Instruction.{typeOf, replyAddressSize, headerSize}
@@ -28,6 +28,14 @@ numberOf UnknownProtocol = 12
 numberOf ExtendedProtocol = 13
 numberOf Reply = 14
 numberOf HeaderCrc = 15
+
+-- A packet that begins 00 FE 03 is read as if its first byte weren't there: that is the last zero of the path to us, which some interfaces leave, and what
+-- stands behind the path of plug-and-play is always FE (document 02, 2; 000, 5.2.3.2c). All that follows is said of the packet so read.
+abbrev pub hasZero : List ℕ → Bool
+hasZero p = eqb (getD p 0 0) 0x00 && eqb (getD p 1 0) 0xFE && eqb (getD p 2 0) 0x03
+
+unfoldable pub bare : List ℕ → List ℕ
+bare p = cond (hasZero p) (drop 1 p) p
 
 -- A refused packet, and one for the time receiver, have no path.
 abbrev pub refused : Refusal → Packet

@@ -15,6 +15,7 @@ pub use reading::End;
 pub use reading::Packet;
 pub use reading::Reading;
 pub use reading::Refusal;
+pub use reading::bare;
 pub use reading::read_packet;
 pub use reply::data_place;
 pub use reply::reply_length;

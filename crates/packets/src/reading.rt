@@ -5,6 +5,7 @@ ghost use lib.ListN.{length};
 ghost use Rattle.packets.specs.Instruction.{replyAddressSize};
 ghost use Rattle.packets.specs.Header.{instructionAt};
 ghost use Rattle.packets.specs.Reading.{isEop, numberOf, timePacket, readCommand, readPacket};
+ghost use Rattle.packets.specs.Reading.{bare as Reading·bare};
 ghost use Rattle.packets.specs.Reading.{refused as Reading·refused};
 ghost use Rattle.packets.specs.Reading.{command as Reading·command};
 use crate::header;
@@ -64,6 +65,20 @@ impl Refusal {
             Refusal::HeaderCrc => 15,
         }
     }
+}
+
+// The packet as it is to be read: where it begins 00 FE 03, without that zero, which is the end of the path to us and no part of a plug-and-play packet. Everything
+// that goes by places in the packet has to be given this.
+pub fn bare(packet: &[u8]) -> &[u8]
+    ensures { λ r. ⌜ now r ≡ Reading·bare (now (packet .entry)) ⌝ }
+{
+    if packet.len() < 3 {
+        return packet;
+    }
+    if (packet[0] == 0x00) & (packet[1] == 0xFE) & (packet[2] == 0x03) {
+        return &packet[1..];
+    }
+    packet
 }
 
 // Reads a packet by its second byte, the protocol. `number` is the time number of the unit.

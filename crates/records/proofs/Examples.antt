@@ -7,7 +7,7 @@ use lib.ListN.{length, replicate}
 use Rattle.octets.specs.Crc.{crc, mirrored, bits, remainder, message, modulo}
 use Rattle.packets.specs.Instruction.{kindOf}
 use Rattle.packets.specs.Path.{pathOf, orOneZero, withoutLeadingZeros, samePath}
-use Rattle.packets.specs.Reading.{readPacket, readProtocol, readCommand}
+use Rattle.packets.specs.Reading.{bare, readPacket, readProtocol, readCommand}
 use Rattle.packets.specs.Reply.{replyWith, replyLength, replied}
 use Rattle.packets.specs.Time.{readTime}
 use Rattle.packets.specs.declared.reading.End.the-variants.{Eop, Eep}
@@ -43,17 +43,17 @@ log = 0x5A ∷ 0x57 ∷ 0x01 ∷ 0x03 ∷ 0x00 ∷ 0x00 ∷ 0x02 ∷ 0xFE ∷ 0x
 
 pub example : meaning log
     ≡ 0x69 ∷ 0x74 ∷ 0x65 ∷ 0x6D ∷ 0x20 ∷ 0x66 ∷ 0x61 ∷ 0x74 ∷ 0x65 ∷ 0x20 ∷ 0x73 ∷ 0x74 ∷ 0x61 ∷ 0x74 ∷ 0x75 ∷ 0x73 ∷ 0x20 ∷ 0x72 ∷ 0x65 ∷ 0x70 ∷ 0x6C ∷ 0x79 ∷ 0x0A ∷ 0x31 ∷ 0x20 ∷ 0x31 ∷ 0x32 ∷ 0x20 ∷ 0x2D ∷ 0x20 ∷ 0x30 ∷ 0x0A ∷ 0x65 ∷ 0x6E ∷ 0x64 ∷ 0x20 ∷ 0x31 ∷ 0x0A ∷ []
-unfolding readRecord decimal recordLine lines takePacket judged countedFor usable usableUnit pathOf orOneZero withoutLeadingZeros readPacket readProtocol
+unfolding readRecord decimal recordLine lines takePacket bare judged countedFor usable usableUnit pathOf orOneZero withoutLeadingZeros readPacket readProtocol
 example = refl
 
 -- with a byte more, the third line is 'bad 9'
 pub stray : meaning (log ++ (0x5A ∷ [])) ≡ ascii "item fate status reply\n1 12 - 0\nbad 9\n"
-unfolding readRecord decimal recordLine lines takePacket judged countedFor usable usableUnit pathOf orOneZero withoutLeadingZeros readPacket readProtocol
+unfolding readRecord decimal recordLine lines takePacket bare judged countedFor usable usableUnit pathOf orOneZero withoutLeadingZeros readPacket readProtocol
 stray = refl
 
 -- and no bytes print 'end 0'
 pub nothing : meaning [] ≡ ascii "item fate status reply\nend 0\n"
-unfolding readRecord decimal recordLine lines takePacket judged countedFor usable usableUnit pathOf orOneZero withoutLeadingZeros readPacket readProtocol
+unfolding readRecord decimal recordLine lines takePacket bare judged countedFor usable usableUnit pathOf orOneZero withoutLeadingZeros readPacket readProtocol
 nothing = refl
 
 -- ---- a log whose lines depend on each other
@@ -76,7 +76,7 @@ pub told : meaning (story ++ (0x5A ∷ []))
     ++ ascii "4 0 - 0\n"
     ++ ascii "5 20 00 15 69010c00430005000000027aabcdd7\n"
     ++ ascii "bad 121\n"
-unfolding readRecord decimal recordLine lines takePacket takeTimeCode afterCode judged decidedOn decidedByData plannedFor headerStatus openingStatus spanStatus spanSize isAuthorised fieldsStatus namesFields rowOf wantedCount dataStatus replyCount stored dataFor repliedTo changed swapped countedFor usable usableUnit valuesOf linkInformation readPacket readProtocol readCommand kindOf withoutLeadingZeros orOneZero pathOf samePath replyLength replied replyWith crc mirrored bits remainder message modulo
+unfolding readRecord decimal recordLine lines takePacket bare takeTimeCode afterCode judged decidedOn decidedByData plannedFor headerStatus openingStatus spanStatus spanSize isAuthorised fieldsStatus namesFields rowOf wantedCount dataStatus replyCount stored dataFor repliedTo changed swapped countedFor usable usableUnit valuesOf linkInformation readPacket readProtocol readCommand kindOf withoutLeadingZeros orOneZero pathOf samePath replyLength replied replyWith crc mirrored bits remainder message modulo
 told = refl
 
 -- 0, 9, 10, and the greatest number of 64 bits
@@ -239,7 +239,7 @@ fate-of item s = called item s benchUnit (lentBy startHeld) .answer .fate
 
 -- a packet of an unknown protocol on the last link, and on one that is not there
 pub by-link : map (λ (link : ℕ). fate-of (Packet Eop link 2) log) (4 ∷ 5 ∷ []) ≡ Unread UnknownProtocol ∷ NoSuchLink ∷ []
-unfolding takePacket judged countedFor usable usableUnit pathOf orOneZero withoutLeadingZeros readPacket readProtocol
+unfolding takePacket bare judged countedFor usable usableUnit pathOf orOneZero withoutLeadingZeros readPacket readProtocol
 by-link = refl
 
 -- a time packet with either end
@@ -247,7 +247,7 @@ abbrev time-log : List ℕ
 time-log = head 1 1 0 0 12 ++ (0xFE ∷ 0xF0 ∷ 0x9F ∷ 0x01 ∷ 0x00 ∷ 0x00 ∷ 0x00 ∷ 0x05 ∷ 0x80 ∷ 0x00 ∷ 0x00 ∷ 0xB0 ∷ [])
 
 pub by-end : fate-of (Packet Eop 1 12) time-log ∷ fate-of (Packet Eep 1 12) time-log ∷ [] ≡ TimeTaken ∷ TimeThrownAway ∷ []
-unfolding takePacket judged countedFor usable usableUnit pathOf orOneZero withoutLeadingZeros readPacket readProtocol readTime crc mirrored bits remainder message modulo
+unfolding takePacket bare judged countedFor usable usableUnit pathOf orOneZero withoutLeadingZeros readPacket readProtocol readTime crc mirrored bits remainder message modulo
 by-end = refl
 
 -- a Time-Code goes to the last one, ticks to the elapsed time

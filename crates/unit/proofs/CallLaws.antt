@@ -14,7 +14,7 @@ use Rattle.packets.proofs.ReplyLaws.{length-replied}
 use Rattle.unit.specs.Fate.{isSuccess, fateNumber}
 use Rattle.unit.specs.Clock.{afterCode, afterTicks}
 use Rattle.unit.specs.Act.{withClock}
-use Rattle.unit.specs.Given.{Arrived, Lent, sizesOf}
+use Rattle.unit.specs.Given.{Arrived, asRead, Lent, sizesOf}
 use Rattle.unit.specs.Decide.{headerStatus, allAtHand, dataStatusOf}
 use Rattle.unit.specs.Plan.{unansweredFate}
 use Rattle.unit.specs.Judge.{judged, fateIn, lengthIn}
@@ -40,7 +40,7 @@ silent-high s = go (isSuccess s)
 
 module _ (u : TheUnit) (p : Arrived) where
   abbrev path : Path
-  path = readPacket (p .packet) (u .number) .path
+  path = readPacket (asRead p .packet) (u .number) .path
 
   module _ (lent : Lent) where
     -- fates 1, 2 and 3 leave everything
@@ -51,7 +51,7 @@ module _ (u : TheUnit) (p : Arrived) where
     low-leaves =
         packet-is u p lent Leaves (λ e l. refl) (λ e f l. refl) (λ e f why g l. absurd (omega (arith, unread-number why .0, l))) (λ e f g l. absurd (omega (arith, l)))
         (λ e f g t l. absurd (omega (arith, l)))
-        (λ e f h g. command-is u h path p lent Leaves (λ l. refl) (λ a. high (headerStatus u h path (p .link))) (λ q a. high (dataStatusOf h p)) (λ q a. high (dataStatusOf h p)))
+        (λ e f h g. command-is u h path (asRead p) lent Leaves (λ l. refl) (λ a. high (headerStatus u h path (p .link))) (λ q a. high (dataStatusOf h (asRead p))) (λ q a. high (dataStatusOf h (asRead p))))
       where
         high : {A B C D : Type 0} (s : Status) → (A → fateNumber (Replied s) ≤ 3 → C) × (B → fateNumber (unansweredFate s) ≤ 3 → D)
         high s = (λ w l. absurd (omega (arith, l)), λ w l. absurd (silent-high s l))
@@ -63,9 +63,9 @@ module _ (u : TheUnit) (p : Arrived) where
     pub packet-length : Long (takePacket u p lent)
     packet-length =
         packet-is u p lent Long (λ e. (refl, refl)) (λ e f. (refl, refl)) (λ e f why g. (refl, refl)) (λ e f g. (refl, refl)) (λ e f g t. (refl, refl))
-        (λ e f h g. command-is u h path p lent Long (refl, refl) (λ a. (λ w. (refl, buffer h _ _), λ w. (refl, refl)))
+        (λ e f h g. command-is u h path (asRead p) lent Long (refl, refl) (λ a. (λ w. (refl, buffer h _ _), λ w. (refl, refl)))
         (λ q a.
-        let l = memory-length u h path p (lent .memory) e (header-whole (p .packet) (u .number) h g) q a in
+        let l = memory-length u h path (asRead p) (lent .memory) e (header-whole (asRead p .packet) (u .number) h g) q a in
         (λ w. (l, buffer h _ _), λ w. (l, refl)))
         (λ q a. (λ w. (refl, buffer h _ _), λ w. (refl, refl))))
       where
@@ -77,22 +77,22 @@ module _ (u : TheUnit) (p : Arrived) where
     unfolding takeCommand
     reply-fits =
         packet-is u p lent (λ o. o .answer .length ≤ length (lent .reply)) (λ e. omega arith) (λ e f. omega arith) (λ e f why g. omega arith)
-        (λ e f g. omega arith) (λ e f g t. omega arith) (λ e f h g. plan-fits u h path (allAtHand h p) (p .end) (p .link) (length (lent .reply)))
+        (λ e f g. omega arith) (λ e f g t. omega arith) (λ e f h g. plan-fits u h path (allAtHand h (asRead p)) (p .end) (p .link) (length (lent .reply)))
 
   -- ---- what is judged is what becomes of it
 
   told-by : (r : Ruling) (k : Path) (lent : Lent)
-      → (doneBy r k u (p .packet) (p .link) lent .answer .fate ≡ fateIn r) × (doneBy r k u (p .packet) (p .link) lent .answer .length ≡ lengthIn r)
+      → (doneBy r k u (asRead p .packet) (p .link) lent .answer .fate ≡ fateIn r) × (doneBy r k u (asRead p .packet) (p .link) lent .answer .length ≡ lengthIn r)
   told-by (Ends fate) k lent = (refl, refl)
   told-by (SetsTime t) k lent = (refl, refl)
   told-by (Planned h plan) k lent = (refl, refl)
 
   -- fate, with its status, and length of the reply are those of the ruling
   pub as-judged : (lent : Lent)
-      → (takePacket u p lent .answer .fate ≡ fateIn (judged u p (sizesOf lent) .ruling))
-      × (takePacket u p lent .answer .length ≡ lengthIn (judged u p (sizesOf lent) .ruling))
+      → (takePacket u p lent .answer .fate ≡ fateIn (judged u (asRead p) (sizesOf lent) .ruling))
+      × (takePacket u p lent .answer .length ≡ lengthIn (judged u (asRead p) (sizesOf lent) .ruling))
   unfolding takePacket
-  as-judged lent = let j = judged u p (sizesOf lent) in told-by (j .ruling) (j .path) lent
+  as-judged lent = let j = judged u (asRead p) (sizesOf lent) in told-by (j .ruling) (j .path) lent
 
   -- so of what is lent only the sizes tell them (and of the counters nothing does: judged-aside)
   pub by-sizes : (lent other : Lent) → sizesOf lent ≡ sizesOf other
@@ -100,7 +100,7 @@ module _ (u : TheUnit) (p : Arrived) where
   by-sizes lent other e =
       let a = as-judged lent in
       let b = as-judged other in
-      (a .0 ∙ ap (λ (n : Sizes). fateIn (judged u p n .ruling)) e ∙ sym (b .0), a .1 ∙ ap (λ (n : Sizes). lengthIn (judged u p n .ruling)) e ∙ sym (b .1))
+      (a .0 ∙ ap (λ (n : Sizes). fateIn (judged u (asRead p) n .ruling)) e ∙ sym (b .0), a .1 ∙ ap (λ (n : Sizes). lengthIn (judged u (asRead p) n .ruling)) e ∙ sym (b .1))
 
 -- a small call has no reply
 pub code-length : (u : TheUnit) (byte : ℕ) → takeTimeCode u byte .length ≡ 0

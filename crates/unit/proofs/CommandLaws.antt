@@ -30,7 +30,7 @@ use Rattle.unit.specs.Clock.{afterTime, timeCodeWritten}
 use Rattle.unit.specs.Owner.{swapped}
 use Rattle.unit.specs.Fields.{rowOf, timeCodeCounter, divider, dividerWritten}
 use Rattle.unit.specs.Usable.{usableUnit, usable}
-use Rattle.unit.specs.Given.{Arrived, Lent, sizesOf}
+use Rattle.unit.specs.Given.{Arrived, asRead, Lent, sizesOf}
 use Rattle.unit.specs.Decide.{headerStatus, allAtHand, dataCount, dataStatusOf}
 use Rattle.unit.specs.Plan.{actionOf, fieldActionOf, unansweredFate, replyCount, plannedFor, decided}
 use Rattle.unit.specs.Judge.{isLink}
@@ -60,13 +60,13 @@ takeCommand u h path p lent = acted (decided u h path p (length (lent .reply))) 
 
 module _ (u : TheUnit) (p : Arrived) where
   abbrev path : Path
-  path = readPacket (p .packet) (u .number) .path
+  path = readPacket (asRead p .packet) (u .number) .path
 
   abbrev read : Reading
-  read = readPacket (p .packet) (u .number) .reading
+  read = readPacket (asRead p .packet) (u .number) .reading
 
   abbrev time : TimeReading
-  time = readTime (p .packet) (p .end) (u .logical) (u .number)
+  time = readTime (asRead p .packet) (p .end) (u .logical) (u .number)
 
   -- the fate is all, counted; and the time is taken
   abbrev ended : Fate → Answer
@@ -91,12 +91,12 @@ module _ (u : TheUnit) (p : Arrived) where
         → (Works true → Linked true → (why : Refusal) → read ≡ Refused why → Both (ended (Unread why)))
         → (Works true → Linked true → read ≡ Time → time ≡ ThrownAway → Both (ended TimeThrownAway))
         → (Works true → Linked true → read ≡ Time → (t : TheTime) → time ≡ Taken t → Both (timed t))
-        → (Works true → Linked true → (h : Header) → read ≡ Command h → R (takeCommand u h path p lent) (takeCommand u h path p (withMemory lent n)))
+        → (Works true → Linked true → (h : Header) → read ≡ Command h → R (takeCommand u h path (asRead p) lent) (takeCommand u h path (asRead p) (withMemory lent n)))
         → R (takePacket u p lent) (takePacket u p (withMemory lent n))
     unfolding takePacket takeCommand countedFor
     packets-are one two refused away taken command =
         rw (← long)
-        (judged-is u p (sizesOf lent) (λ j. R (done j u (p .packet) (p .link) lent) (done j u (p .packet) (p .link) (withMemory lent n))) one two refused away taken command)
+        (judged-is u (asRead p) (sizesOf lent) (λ j. R (done j u (asRead p .packet) (p .link) lent) (done j u (asRead p .packet) (p .link) (withMemory lent n))) one two refused away taken command)
 
   -- and on one memory
   module _ (lent : Lent) (Q : Outcome → Type 0) where
@@ -105,7 +105,7 @@ module _ (u : TheUnit) (p : Arrived) where
         → (usable u (length (lent .memory)) ≡ true → isLink u (p .link) ≡ true → (why : Refusal) → read ≡ Refused why → Q (leaving (ended (Unread why)) lent))
         → (usable u (length (lent .memory)) ≡ true → isLink u (p .link) ≡ true → read ≡ Time → Q (leaving (ended TimeThrownAway) lent))
         → (usable u (length (lent .memory)) ≡ true → isLink u (p .link) ≡ true → read ≡ Time → (t : TheTime) → Q (leaving (timed t) lent))
-        → (usable u (length (lent .memory)) ≡ true → isLink u (p .link) ≡ true → (h : Header) → read ≡ Command h → Q (takeCommand u h path p lent))
+        → (usable u (length (lent .memory)) ≡ true → isLink u (p .link) ≡ true → (h : Header) → read ≡ Command h → Q (takeCommand u h path (asRead p) lent))
         → Q (takePacket u p lent)
     packet-is one two refused away taken command =
         packets-are lent (lent .memory) refl (λ o o′. Q o) one two refused (λ e f g w. away e f g) (λ e f g t w. taken e f g t) command
@@ -255,7 +255,7 @@ command-fate u h path p lent P three twenty seventeen eighteen =
 
 module _ (u : TheUnit) (p : Arrived) (lent : Lent) (Q : TheUnit → Type 0) (counted : (f : Fate) (v : TheUnit) → Q v → Q (countedUnit f v)) where
   abbrev path′ : Path
-  path′ = readPacket (p .packet) (u .number) .path
+  path′ = readPacket (asRead p .packet) (u .number) .path
 
   -- what holds where a command on fields is accepted
   abbrev Changes : Header → Type 0
@@ -264,22 +264,22 @@ module _ (u : TheUnit) (p : Arrived) (lent : Lent) (Q : TheUnit → Type 0) (cou
       × (kindIn h ≡ Write → (word : ℕ) → Q (withClock u (timeCodeWritten (u .clock) word)) × Q (withFields u (dividerWritten (u .fields) word)))
 
   pub unit-is : Q u
-      → (usable u (length (lent .memory)) ≡ true → (t : TheTime) → readTime (p .packet) (p .end) (u .logical) (u .number) ≡ Taken t → Q (withClock u (afterTime (u .clock) t)))
-      → (usable u (length (lent .memory)) ≡ true → isLink u (p .link) ≡ true → (h : Header) → readPacket (p .packet) (u .number) .reading ≡ Command h
+      → (usable u (length (lent .memory)) ≡ true → (t : TheTime) → readTime (asRead p .packet) (p .end) (u .logical) (u .number) ≡ Taken t → Q (withClock u (afterTime (u .clock) t)))
+      → (usable u (length (lent .memory)) ≡ true → isLink u (p .link) ≡ true → (h : Header) → readPacket (asRead p .packet) (u .number) .reading ≡ Command h
       → (h .protocol ≡ 0x01 → ⊥) → isSuccess (headerStatus u h path′ (p .link)) ≡ true → Changes h)
       → Q (takePacket u p lent .answer .unit)
   unit-is same time fields =
       packets-are u p lent (lent .memory) refl (λ o o′. Q (o .answer .unit)) (λ e. same) (λ e f. same) (λ e f why g. counted (Unread why) u same)
       (λ e f g w. counted TimeThrownAway u same) (λ e f g t w. counted TimeTaken (withClock u (afterTime (u .clock) t)) (time e t w))
-      (λ e f h g. command-is u h path′ p lent (λ o. Q (o .answer .unit)) same (λ a. both (headerStatus u h path′ (p .link)) u same) (λ q a. both (dataStatusOf h p) u same)
-      (λ q a. both (dataStatusOf h p) (changed (fieldActionIn h p) u (h .initiator) path′ (p .link)) (after h (fields e f h g q a))))
+      (λ e f h g. command-is u h path′ (asRead p) lent (λ o. Q (o .answer .unit)) same (λ a. both (headerStatus u h path′ (p .link)) u same) (λ q a. both (dataStatusOf h (asRead p)) u same)
+      (λ q a. both (dataStatusOf h (asRead p)) (changed (fieldActionIn h (asRead p)) u (h .initiator) path′ (p .link)) (after h (fields e f h g q a))))
     where
       both : {A B : Type 0} (s : Status) (v : TheUnit) → Q v → (A → Q (countedUnit (Replied s) v)) × (B → Q (countedUnit (unansweredFate s) v))
       both s v x = (λ w. counted (Replied s) v x, λ w. counted (unansweredFate s) v x)
 
-      after : (h : Header) → Changes h → Q (changed (fieldActionIn h p) u (h .initiator) path′ (p .link))
+      after : (h : Header) → Changes h → Q (changed (fieldActionIn h (asRead p)) u (h .initiator) path′ (p .link))
       after h changes =
-          field-changes u h path′ (p .packet) (p .link) (headerSize (h .instruction)) Q (isSuccess (dataStatusOf h p)) (kindIn h) same
+          field-changes u h path′ (asRead p .packet) (p .link) (headerSize (h .instruction)) Q (isSuccess (dataStatusOf h (asRead p))) (kindIn h) same
           (λ new expected t k. changes .0 k new expected) (λ word t k. changes .1 k word)
 
 -- ---- the time after a packet: as it was, unless a time packet was taken (19)
@@ -292,7 +292,7 @@ module _ (u : TheUnit) (p : Arrived) (lent : Lent) where
   time-stays =
       packet-is u p lent (λ o. fateNumber (o .answer .fate) ≢ 19 → TimeStays (o .answer .unit)) (λ e n. same) (λ e f n. same) (λ e f why g n. same) (λ e f g n. same)
       (λ e f g t n. absurd (n refl))
-      (λ e f h g. command-is u h (path u p) p lent (λ o. fateNumber (o .answer .fate) ≢ 19 → TimeStays (o .answer .unit)) (λ n. same) (λ a. (λ w n. same, λ w n. same))
+      (λ e f h g. command-is u h (path u p) (asRead p) lent (λ o. fateNumber (o .answer .fate) ≢ 19 → TimeStays (o .answer .unit)) (λ n. same) (λ a. (λ w n. same, λ w n. same))
       (λ q a. (λ w n. same, λ w n. same)) (λ q a. (λ w n. fields h, λ w n. fields h)))
     where
       same : TimeStays u
@@ -306,7 +306,7 @@ module _ (u : TheUnit) (p : Arrived) (lent : Lent) where
           go true = (refl, refl)
           go false = (refl, refl)
 
-      fields : (h : Header) → TimeStays (changed (fieldActionIn h p) u (h .initiator) (path u p) (p .link))
+      fields : (h : Header) → TimeStays (changed (fieldActionIn h (asRead p)) u (h .initiator) (path u p) (p .link))
       fields h =
-          field-changes u h (path u p) (p .packet) (p .link) (headerSize (h .instruction)) TimeStays (isSuccess (dataStatusOf h p)) (kindIn h) same
+          field-changes u h (path u p) (asRead p .packet) (p .link) (headerSize (h .instruction)) TimeStays (isSuccess (dataStatusOf h (asRead p))) (kindIn h) same
           (λ new expected t k. same) (λ word t k. (written word, same))

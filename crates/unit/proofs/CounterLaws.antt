@@ -18,7 +18,7 @@ use Rattle.unit.specs.Counters.{bumpedAt, counterOf, total, countedFor}
 use Rattle.unit.specs.Clock.{timeCodeWritten}
 use Rattle.unit.specs.Fields.{rowOf, timeCodeCounter, divider, dividerWritten}
 use Rattle.unit.specs.Usable.{usable, usableUnit}
-use Rattle.unit.specs.Given.{Arrived, Lent, sizesOf}
+use Rattle.unit.specs.Given.{Arrived, asRead, Lent, sizesOf}
 use Rattle.unit.specs.Decide.{headerStatus}
 use Rattle.unit.specs.Plan.{decidedOn}
 use Rattle.unit.specs.Judge.{rulingOn, outright, isLink, judged}
@@ -122,9 +122,9 @@ module _ (u : TheUnit) (c : List ℕ) where
   pub counters-aside : (p : Arrived) (lent : Lent) → takePacket (withCounters u c) p lent ≡ recounted c (takePacket u p lent)
   unfolding takePacket
   counters-aside p lent =
-      let j = judged u p (sizesOf lent) in
-      ap (λ (k : Judgement). done k (withCounters u c) (p .packet) (p .link) lent) (judged-aside p (sizesOf lent))
-      ∙ done-aside (p .packet) (p .link) lent (j .ruling) (j .path)
+      let j = judged u (asRead p) (sizesOf lent) in
+      ap (λ (k : Judgement). done k (withCounters u c) (asRead p .packet) (p .link) lent) (judged-aside (asRead p) (sizesOf lent))
+      ∙ done-aside (asRead p .packet) (p .link) lent (j .ruling) (j .path)
 
 -- ---- counting goes in any order
 

@@ -8,7 +8,7 @@ use lib.ListN.{length, replicate, take}
 use Rattle.octets.specs.Crc.{crc, mirrored, bits, remainder, message, modulo}
 use Rattle.packets.specs.Instruction.{kindOf}
 use Rattle.packets.specs.Path.{withoutLeadingZeros, orOneZero, pathOf, samePath}
-use Rattle.packets.specs.Reading.{readCommand, readProtocol, readPacket}
+use Rattle.packets.specs.Reading.{bare, readCommand, readProtocol, readPacket}
 use Rattle.packets.specs.Reply.{replyWith, replyLength, replied}
 use Rattle.packets.specs.Time.{readTime}
 use Rattle.packets.specs.declared.reading.End.{End}
@@ -114,9 +114,12 @@ address-parts = (refl, refl)
 abbrev bytes : List ℕ
 bytes = 0x10 ∷ 0x11 ∷ 0x12 ∷ 0x13 ∷ 0x14 ∷ 0x15 ∷ 0x16 ∷ 0x17 ∷ []
 
--- its owner, and Link Information as held
+-- its time number, its owner, and Link Information as held
+abbrev unit-with : ℕ → Owner → ℕ → TheUnit
+unit-with number o information = unit number 4 (windows 1 (window 0 8 true true ∷ replicate 15 (window 0 0 false false))) information o (at 0 0)
+
 abbrev unit-of : Owner → ℕ → TheUnit
-unit-of o information = unit 0xF0 4 (windows 1 (window 0 8 true true ∷ replicate 15 (window 0 0 false false))) information o (at 0 0)
+unit-of = unit-with 0xF0
 
 abbrev bench : TheUnit
 bench = unit-of (owner 0 0 0 0) 0
@@ -241,7 +244,7 @@ memory-commands :
           ∷ [],
       bench .owner,
     ))
-unfolding takePacket judged decidedOn decidedByData plannedFor headerStatus openingStatus spanStatus spanSize isAuthorised fieldsStatus namesFields rowOf wantedCount dataStatus replyCount stored dataFor repliedTo changed swapped fieldWritten countedFor usable usableUnit valuesOf linkInformation dividerWritten readPacket readProtocol readCommand kindOf withoutLeadingZeros orOneZero pathOf samePath replyLength replied replyWith crc mirrored bits remainder message modulo
+unfolding takePacket bare judged decidedOn decidedByData plannedFor headerStatus openingStatus spanStatus spanSize isAuthorised fieldsStatus namesFields rowOf wantedCount dataStatus replyCount stored dataFor repliedTo changed swapped fieldWritten countedFor usable usableUnit valuesOf linkInformation dividerWritten readPacket readProtocol readCommand kindOf withoutLeadingZeros orOneZero pathOf samePath replyLength replied replyWith crc mirrored bits remainder message modulo
 memory-commands = (refl, refl, refl, refl, refl, refl, refl, refl, refl, refl, refl, refl, refl, refl, refl, refl, refl)
 
 -- plug-and-play commands
@@ -317,8 +320,59 @@ field-commands :
           ∷ [],
       owned .owner,
     ))
-unfolding takePacket judged decidedOn decidedByData plannedFor headerStatus openingStatus spanStatus spanSize isAuthorised fieldsStatus namesFields rowOf wantedCount dataStatus replyCount stored dataFor repliedTo changed swapped fieldWritten countedFor usable usableUnit valuesOf linkInformation dividerWritten readPacket readProtocol readCommand kindOf withoutLeadingZeros orOneZero pathOf samePath replyLength replied replyWith crc mirrored bits remainder message modulo
+unfolding takePacket bare judged decidedOn decidedByData plannedFor headerStatus openingStatus spanStatus spanSize isAuthorised fieldsStatus namesFields rowOf wantedCount dataStatus replyCount stored dataFor repliedTo changed swapped fieldWritten countedFor usable usableUnit valuesOf linkInformation dividerWritten readPacket readProtocol readCommand kindOf withoutLeadingZeros orOneZero pathOf samePath replyLength replied replyWith crc mirrored bits remainder message modulo
 field-commands = (refl, refl, refl, refl, refl, refl, refl, refl, refl, refl, refl)
+
+-- with a zero in front: a plug-and-play command is read without it, by every unit; nothing else is (document 02, 2)
+abbrev fe : TheUnit
+fe = unit-with 0xFE (owner 0 0 0 0) 0
+
+zero-in-front :
+    -- the claim above; its words, its data CRC and their number are those behind the zero
+    (to bench (0x00 ∷ 0xFE ∷ 0x03 ∷ 0x5C ∷ 0x00 ∷ 0x67 ∷ 0x00 ∷ 0x01 ∷ 0x00 ∷ 0x00 ∷ 0x00 ∷ 0x00 ∷ 0x08 ∷ 0x00 ∷ 0x00 ∷ 0x08 ∷ 0xA2 ∷ 0x00 ∷ 0x00 ∷ 0x00 ∷ 0x05 ∷ 0x00 ∷ 0x00 ∷ 0x00 ∷ 0x00 ∷ 0xCF ∷ []) Eop 1 40
+    ≡ (Replied Success, bytes, 0x67 ∷ 0x03 ∷ 0x1C ∷ 0x00 ∷ 0xFE ∷ 0x00 ∷ 0x01 ∷ 0x00 ∷ 0x00 ∷ 0x00 ∷ 0x04 ∷ 0x97 ∷ 0x00 ∷ 0x00 ∷ 0x00 ∷ 0x00 ∷ 0x00 ∷ [], owned .owner))
+    -- and where the time number is FE
+    × (to fe (0x00 ∷ 0xFE ∷ 0x03 ∷ 0x5C ∷ 0x00 ∷ 0x67 ∷ 0x00 ∷ 0x01 ∷ 0x00 ∷ 0x00 ∷ 0x00 ∷ 0x00 ∷ 0x08 ∷ 0x00 ∷ 0x00 ∷ 0x08 ∷ 0xA2 ∷ 0x00 ∷ 0x00 ∷ 0x00 ∷ 0x05 ∷ 0x00 ∷ 0x00 ∷ 0x00 ∷ 0x00 ∷ 0xCF ∷ []) Eop 1 40
+    ≡ (Replied Success, bytes, 0x67 ∷ 0x03 ∷ 0x1C ∷ 0x00 ∷ 0xFE ∷ 0x00 ∷ 0x01 ∷ 0x00 ∷ 0x00 ∷ 0x00 ∷ 0x04 ∷ 0x97 ∷ 0x00 ∷ 0x00 ∷ 0x00 ∷ 0x00 ∷ 0x00 ∷ [], owned .owner))
+    -- a byte more, and a byte less, than there should be
+    × (to bench (0x00 ∷ 0xFE ∷ 0x03 ∷ 0x5C ∷ 0x00 ∷ 0x67 ∷ 0x00 ∷ 0x01 ∷ 0x00 ∷ 0x00 ∷ 0x00 ∷ 0x00 ∷ 0x08 ∷ 0x00 ∷ 0x00 ∷ 0x08 ∷ 0xA2 ∷ 0x00 ∷ 0x00 ∷ 0x00 ∷ 0x05 ∷ 0x00 ∷ 0x00 ∷ 0x00 ∷ 0x00 ∷ 0xCF ∷ 0x00 ∷ []) Eop 1 40
+    ≡ (Replied TooMuchData, bytes, 0x67 ∷ 0x03 ∷ 0x1C ∷ 0x06 ∷ 0xFE ∷ 0x00 ∷ 0x01 ∷ 0x00 ∷ 0x00 ∷ 0x00 ∷ 0x00 ∷ 0xDD ∷ 0x00 ∷ [], bench .owner))
+    × (to fe (0x00 ∷ 0xFE ∷ 0x03 ∷ 0x5C ∷ 0x00 ∷ 0x67 ∷ 0x00 ∷ 0x01 ∷ 0x00 ∷ 0x00 ∷ 0x00 ∷ 0x00 ∷ 0x08 ∷ 0x00 ∷ 0x00 ∷ 0x08 ∷ 0xA2 ∷ 0x00 ∷ 0x00 ∷ 0x00 ∷ 0x05 ∷ 0x00 ∷ 0x00 ∷ 0x00 ∷ 0x00 ∷ []) Eop 1 40
+    ≡ (Replied EarlyEop, bytes, 0x67 ∷ 0x03 ∷ 0x1C ∷ 0x05 ∷ 0xFE ∷ 0x00 ∷ 0x01 ∷ 0x00 ∷ 0x00 ∷ 0x00 ∷ 0x00 ∷ 0x1B ∷ 0x00 ∷ [], fe .owner))
+    -- by itself, and the header without its CRC: incomplete
+    × (to bench (0x00 ∷ 0xFE ∷ 0x03 ∷ []) Eop 1 40
+    ≡ (Unread Incomplete, bytes, [], bench .owner))
+    × (to fe (0x00 ∷ 0xFE ∷ 0x03 ∷ 0x5C ∷ 0x00 ∷ 0x67 ∷ 0x00 ∷ 0x01 ∷ 0x00 ∷ 0x00 ∷ 0x00 ∷ 0x00 ∷ 0x08 ∷ 0x00 ∷ 0x00 ∷ 0x08 ∷ []) Eop 1 40
+    ≡ (Unread Incomplete, bytes, [], fe .owner))
+    -- a wrong header CRC, and a reply
+    × (to fe (0x00 ∷ 0xFE ∷ 0x03 ∷ 0x5C ∷ 0x00 ∷ 0x67 ∷ 0x00 ∷ 0x01 ∷ 0x00 ∷ 0x00 ∷ 0x00 ∷ 0x00 ∷ 0x08 ∷ 0x00 ∷ 0x00 ∷ 0x08 ∷ 0xA3 ∷ []) Eop 1 40
+    ≡ (Unread HeaderCrc, bytes, [], fe .owner))
+    × (to fe (0x00 ∷ 0xFE ∷ 0x03 ∷ 0x1C ∷ []) Eop 1 40
+    ≡ (Unread Reply, bytes, [], fe .owner))
+    -- two zeros: the second byte is 00
+    × (to bench (0x00 ∷ 0x00 ∷ 0xFE ∷ 0x03 ∷ 0x5C ∷ 0x00 ∷ 0x67 ∷ 0x00 ∷ 0x01 ∷ 0x00 ∷ 0x00 ∷ 0x00 ∷ 0x00 ∷ 0x08 ∷ 0x00 ∷ 0x00 ∷ 0x08 ∷ 0xA2 ∷ 0x00 ∷ 0x00 ∷ 0x00 ∷ 0x05 ∷ 0x00 ∷ 0x00 ∷ 0x00 ∷ 0x00 ∷ 0xCF ∷ []) Eop 1 40
+    ≡ (Unread ExtendedProtocol, bytes, [], bench .owner))
+    × (to fe (0x00 ∷ 0x00 ∷ 0xFE ∷ 0x03 ∷ 0x5C ∷ 0x00 ∷ 0x67 ∷ 0x00 ∷ 0x01 ∷ 0x00 ∷ 0x00 ∷ 0x00 ∷ 0x00 ∷ 0x08 ∷ 0x00 ∷ 0x00 ∷ 0x08 ∷ 0xA2 ∷ 0x00 ∷ 0x00 ∷ 0x00 ∷ 0x05 ∷ 0x00 ∷ 0x00 ∷ 0x00 ∷ 0x00 ∷ 0xCF ∷ []) Eop 1 40
+    ≡ (Unread ExtendedProtocol, bytes, [], fe .owner))
+    -- RMAP behind a zero, and a time packet: the second byte is FE
+    × (to bench (0x00 ∷ 0xFE ∷ 0x01 ∷ 0x4C ∷ 0x2A ∷ 0x67 ∷ 0x00 ∷ 0x01 ∷ 0x00 ∷ 0x00 ∷ 0x00 ∷ 0x00 ∷ 0x00 ∷ 0x00 ∷ 0x00 ∷ 0x02 ∷ 0xDA ∷ []) Eop 1 40
+    ≡ (Unread UnknownProtocol, bytes, [], bench .owner))
+    × (to fe (0x00 ∷ 0xFE ∷ 0x01 ∷ 0x4C ∷ 0x2A ∷ 0x67 ∷ 0x00 ∷ 0x01 ∷ 0x00 ∷ 0x00 ∷ 0x00 ∷ 0x00 ∷ 0x00 ∷ 0x00 ∷ 0x00 ∷ 0x02 ∷ 0xDA ∷ []) Eop 1 40
+    ≡ (TimeThrownAway, bytes, [], fe .owner))
+    × (to bench (0x00 ∷ 0xFE ∷ 0xF0 ∷ 0x9F ∷ 0x01 ∷ 0x00 ∷ 0x00 ∷ 0x00 ∷ 0x07 ∷ 0x12 ∷ 0x34 ∷ 0x56 ∷ 0x96 ∷ []) Eop 1 40
+    ≡ (Unread UnknownProtocol, bytes, [], bench .owner))
+    -- another byte in front, and a zero in front of another address
+    × (to bench (0x01 ∷ 0xFE ∷ 0x03 ∷ 0x5C ∷ 0x00 ∷ 0x67 ∷ 0x00 ∷ 0x01 ∷ 0x00 ∷ 0x00 ∷ 0x00 ∷ 0x00 ∷ 0x08 ∷ 0x00 ∷ 0x00 ∷ 0x08 ∷ 0xA2 ∷ 0x00 ∷ 0x00 ∷ 0x00 ∷ 0x05 ∷ 0x00 ∷ 0x00 ∷ 0x00 ∷ 0x00 ∷ 0xCF ∷ []) Eop 1 40
+    ≡ (Unread UnknownProtocol, bytes, [], bench .owner))
+    × (to fe (0x01 ∷ 0xFE ∷ 0x03 ∷ 0x5C ∷ 0x00 ∷ 0x67 ∷ 0x00 ∷ 0x01 ∷ 0x00 ∷ 0x00 ∷ 0x00 ∷ 0x00 ∷ 0x08 ∷ 0x00 ∷ 0x00 ∷ 0x08 ∷ 0xA2 ∷ 0x00 ∷ 0x00 ∷ 0x00 ∷ 0x05 ∷ 0x00 ∷ 0x00 ∷ 0x00 ∷ 0x00 ∷ 0xCF ∷ []) Eop 1 40
+    ≡ (TimeThrownAway, bytes, [], fe .owner))
+    × (to bench (0x00 ∷ 0x43 ∷ 0x03 ∷ 0x5C ∷ 0x00 ∷ 0x67 ∷ 0x00 ∷ 0x01 ∷ 0x00 ∷ 0x00 ∷ 0x00 ∷ 0x00 ∷ 0x08 ∷ 0x00 ∷ 0x00 ∷ 0x08 ∷ 0xA2 ∷ 0x00 ∷ 0x00 ∷ 0x00 ∷ 0x05 ∷ 0x00 ∷ 0x00 ∷ 0x00 ∷ 0x00 ∷ 0xCF ∷ []) Eop 1 40
+    ≡ (Unread UnknownProtocol, bytes, [], bench .owner))
+    -- on a link that is not there
+    × (to bench (0x00 ∷ 0xFE ∷ 0x03 ∷ 0x5C ∷ 0x00 ∷ 0x67 ∷ 0x00 ∷ 0x01 ∷ 0x00 ∷ 0x00 ∷ 0x00 ∷ 0x00 ∷ 0x08 ∷ 0x00 ∷ 0x00 ∷ 0x08 ∷ 0xA2 ∷ 0x00 ∷ 0x00 ∷ 0x00 ∷ 0x05 ∷ 0x00 ∷ 0x00 ∷ 0x00 ∷ 0x00 ∷ 0xCF ∷ []) Eop 5 40
+    ≡ (NoSuchLink, bytes, [], bench .owner))
+unfolding takePacket bare judged decidedOn decidedByData plannedFor headerStatus openingStatus spanStatus spanSize isAuthorised fieldsStatus namesFields rowOf wantedCount dataStatus replyCount stored dataFor repliedTo changed swapped fieldWritten countedFor usable usableUnit valuesOf linkInformation dividerWritten readPacket readProtocol readCommand kindOf withoutLeadingZeros orOneZero pathOf samePath replyLength replied replyWith crc mirrored bits remainder message modulo readTime
+zero-in-front = (refl, refl, refl, refl, refl, refl, refl, refl, refl, refl, refl, refl, refl, refl, refl, refl, refl)
 
 -- ---- packets with all that they leave: the whole unit, memory and reply buffer. They show that each part of what is given gets to where it
 -- decides: the end, the link, the sender, the place of the data, what is lent. Worked out by hand; the CRCs by a few lines written from the polynomial
@@ -420,7 +474,7 @@ ended-by-eep :
     -- what the header refuses keeps its status: another key
     × (taking (start near) (0x43 ∷ 0x01 ∷ 0x4C ∷ 0x2B ∷ 0x67 ∷ 0xA1 ∷ 0xB2 ∷ 0x00 ∷ 0x00 ∷ 0x00 ∷ 0x00 ∷ 0x06 ∷ 0x00 ∷ 0x00 ∷ 0x02 ∷ 0x30 ∷ []) Eep 1 40
     ≡ leaving (same near 20) (Replied WrongKey) bytes (0x67 ∷ 0x01 ∷ 0x0C ∷ 0x03 ∷ 0x43 ∷ 0xA1 ∷ 0xB2 ∷ 0x00 ∷ 0x00 ∷ 0x00 ∷ 0x00 ∷ 0xF9 ∷ 0x00 ∷ []) 40)
-unfolding takePacket judged decidedOn decidedByData plannedFor headerStatus openingStatus spanStatus spanSize isAuthorised fieldsStatus namesFields rowOf wantedCount dataStatus replyCount stored dataFor repliedTo changed swapped fieldWritten countedFor usable usableUnit valuesOf linkInformation dividerWritten readPacket readProtocol readCommand kindOf withoutLeadingZeros orOneZero pathOf samePath replyLength replied replyWith crc mirrored bits remainder message modulo
+unfolding takePacket bare judged decidedOn decidedByData plannedFor headerStatus openingStatus spanStatus spanSize isAuthorised fieldsStatus namesFields rowOf wantedCount dataStatus replyCount stored dataFor repliedTo changed swapped fieldWritten countedFor usable usableUnit valuesOf linkInformation dividerWritten readPacket readProtocol readCommand kindOf withoutLeadingZeros orOneZero pathOf samePath replyLength replied replyWith crc mirrored bits remainder message modulo
 ended-by-eep = (refl, refl, refl, refl, refl, refl, refl, refl, refl)
 
 -- the owner's writes and swaps
@@ -463,7 +517,7 @@ owner-writes :
     ∷ 0x00 ∷ 0x00 ∷ 0x00 ∷ 0x00 ∷ 0x00 ∷ 0x05 ∷ 0x96 ∷ []) Eop 1 40
     ≡ leaving (same nobody 20) (Replied Success) bytes (0x67 ∷ 0x03 ∷ 0x1C ∷ 0x00 ∷ 0xFE ∷ 0xA1 ∷ 0xB2 ∷ 0x00 ∷ 0x00 ∷ 0x00 ∷ 0x04 ∷ 0xC4 ∷ 0x00 ∷ 0x00
     ∷ 0x00 ∷ 0x05 ∷ 0x96 ∷ []) 40)
-unfolding takePacket judged decidedOn decidedByData plannedFor headerStatus openingStatus spanStatus spanSize isAuthorised fieldsStatus namesFields rowOf wantedCount dataStatus replyCount stored dataFor repliedTo changed swapped fieldWritten countedFor usable usableUnit valuesOf linkInformation dividerWritten readPacket readProtocol readCommand kindOf withoutLeadingZeros orOneZero pathOf samePath replyLength replied replyWith crc mirrored bits remainder message modulo
+unfolding takePacket bare judged decidedOn decidedByData plannedFor headerStatus openingStatus spanStatus spanSize isAuthorised fieldsStatus namesFields rowOf wantedCount dataStatus replyCount stored dataFor repliedTo changed swapped fieldWritten countedFor usable usableUnit valuesOf linkInformation dividerWritten readPacket readProtocol readCommand kindOf withoutLeadingZeros orOneZero pathOf samePath replyLength replied replyWith crc mirrored bits remainder message modulo
 owner-writes = (refl, refl, refl, refl, refl, refl, refl, refl, refl)
 
 -- with a reply address 00 00 07 09, path 07 09: the data stand behind a header of 20 bytes
@@ -501,7 +555,7 @@ behind-a-reply-address :
     ∷ 0xB2 ∷ 0x00 ∷ 0x00 ∷ 0x08 ∷ 0x00 ∷ 0x02 ∷ 0x00 ∷ 0x00 ∷ 0x08 ∷ 0xA2 ∷ []) Eop 2 40
     ≡ leaving (same far 20) (Replied Success) bytes (0x01 ∷ 0x02 ∷ 0x03 ∷ 0x04 ∷ 0x05 ∷ 0x06 ∷ 0x07 ∷ 0x08 ∷ 0x09 ∷ 0x0A ∷ 0x0B ∷ 0x0C ∷ 0x67 ∷ 0x03 ∷ 0x0F
     ∷ 0x00 ∷ 0xFE ∷ 0xA1 ∷ 0xB2 ∷ 0x00 ∷ 0x00 ∷ 0x00 ∷ 0x08 ∷ 0x3A ∷ 0x00 ∷ 0x10 ∷ 0x00 ∷ 0x04 ∷ 0xAB ∷ 0xCD ∷ 0x00 ∷ 0x05 ∷ 0xCC ∷ []) 40)
-unfolding takePacket judged decidedOn decidedByData plannedFor headerStatus openingStatus spanStatus spanSize isAuthorised fieldsStatus namesFields rowOf wantedCount dataStatus replyCount stored dataFor repliedTo changed swapped fieldWritten countedFor usable usableUnit valuesOf linkInformation dividerWritten readPacket readProtocol readCommand kindOf withoutLeadingZeros orOneZero pathOf samePath replyLength replied replyWith crc mirrored bits remainder message modulo
+unfolding takePacket bare judged decidedOn decidedByData plannedFor headerStatus openingStatus spanStatus spanSize isAuthorised fieldsStatus namesFields rowOf wantedCount dataStatus replyCount stored dataFor repliedTo changed swapped fieldWritten countedFor usable usableUnit valuesOf linkInformation dividerWritten readPacket readProtocol readCommand kindOf withoutLeadingZeros orOneZero pathOf samePath replyLength replied replyWith crc mirrored bits remainder message modulo
 behind-a-reply-address = (refl, refl, refl, refl, refl, refl, refl)
 
 -- what is lent: 8 bytes of memory, and a reply buffer
@@ -529,7 +583,7 @@ left-as-it-was :
     -- 13 is counted, and that is all
     × (taking (start near) (0xFE ∷ 0x00 ∷ []) Eop 1 40
     ≡ leaving (same near 13) (Unread ExtendedProtocol) bytes [] 40)
-unfolding takePacket judged decidedOn decidedByData plannedFor headerStatus openingStatus spanStatus spanSize isAuthorised fieldsStatus namesFields rowOf wantedCount dataStatus replyCount stored dataFor repliedTo changed swapped fieldWritten countedFor usable usableUnit valuesOf linkInformation dividerWritten readPacket readProtocol readCommand kindOf withoutLeadingZeros orOneZero pathOf samePath replyLength replied replyWith crc mirrored bits remainder message modulo
+unfolding takePacket bare judged decidedOn decidedByData plannedFor headerStatus openingStatus spanStatus spanSize isAuthorised fieldsStatus namesFields rowOf wantedCount dataStatus replyCount stored dataFor repliedTo changed swapped fieldWritten countedFor usable usableUnit valuesOf linkInformation dividerWritten readPacket readProtocol readCommand kindOf withoutLeadingZeros orOneZero pathOf samePath replyLength replied replyWith crc mirrored bits remainder message modulo
 left-as-it-was = (refl, refl, refl, refl, refl, refl)
 
 -- time packets to time number F3, while another value waits
@@ -543,5 +597,5 @@ time-packets :
     -- ended by EEP it is thrown away
     × (taking (start nobody) (0x43 ∷ 0xF3 ∷ 0xAF ∷ 0x01 ∷ 0x00 ∷ 0x00 ∷ 0x00 ∷ 0x12 ∷ 0x34 ∷ 0x56 ∷ 0x78 ∷ 0x67 ∷ []) Eep 1 0
     ≡ leaving (same nobody 16) TimeThrownAway bytes [] 0)
-unfolding takePacket judged decidedOn decidedByData plannedFor headerStatus openingStatus spanStatus spanSize isAuthorised fieldsStatus namesFields rowOf wantedCount dataStatus replyCount stored dataFor repliedTo changed swapped fieldWritten countedFor usable usableUnit valuesOf linkInformation dividerWritten readPacket readProtocol readCommand kindOf withoutLeadingZeros orOneZero pathOf samePath replyLength replied replyWith crc mirrored bits remainder message modulo readTime afterTime
+unfolding takePacket bare judged decidedOn decidedByData plannedFor headerStatus openingStatus spanStatus spanSize isAuthorised fieldsStatus namesFields rowOf wantedCount dataStatus replyCount stored dataFor repliedTo changed swapped fieldWritten countedFor usable usableUnit valuesOf linkInformation dividerWritten readPacket readProtocol readCommand kindOf withoutLeadingZeros orOneZero pathOf samePath replyLength replied replyWith crc mirrored bits remainder message modulo readTime afterTime
 time-packets = (refl, refl, refl)

@@ -14,6 +14,7 @@ use Rattle.packets.specs.declared.path.Path.{Path}
 use Rattle.packets.specs.declared.time.When.{When}
 use Rattle.packets.specs.declared.time.When.the-variants.{AtWrap, AtOnce}
 use Rattle.packets.specs.declared.time.Time.{Time as TheTime}
+use Rattle.packets.proofs.BareLaws.{bare-bytes}
 use Rattle.packets.proofs.ReadingLaws.{packet-path}
 use Rattle.packets.proofs.TimeLaws.{taken-below}
 use Rattle.unit.specs.Some.{some}
@@ -22,7 +23,7 @@ use Rattle.unit.specs.Usable.{fitsTime, usableUnit, usable}
 use Rattle.unit.specs.Clock.{timeOf, secondsOf, setAt, afterTime, nearestSecond, atWrap, fractionSet, afterCode, afterTicks, timeCodeWritten}
 use Rattle.unit.specs.Owner.{unowned, swapped}
 use Rattle.unit.specs.Act.{withClock, withOwner}
-use Rattle.unit.specs.Given.{Arrived, Lent}
+use Rattle.unit.specs.Given.{Arrived, asRead, Lent}
 use Rattle.unit.specs.Judge.{isLink}
 use Rattle.unit.specs.Calls.{takePacket, smallCall, takeTimeCode, takeTicks}
 use Rattle.unit.specs.declared.windows.Question.the-variants.{EndsPast}
@@ -182,10 +183,10 @@ unfolding usableUnit
 usable-packet u p lent d =
     unit-is u p lent (λ v. usableUnit v ≡ usableUnit u) (λ f v x. x) refl
     (λ w t g. let k = alone u size w in
-    with-clock u (afterTime (u .clock) t) k (after-time (u .clock) t (taken-below (p .packet) (p .end) (u .logical) (u .number) t d g) (clock-works u k)) ∙ sym k)
+    with-clock u (afterTime (u .clock) t) k (after-time (u .clock) t (taken-below (asRead p .packet) (p .end) (u .logical) (u .number) t (bare-bytes (p .packet) d) g) (clock-works u k)) ∙ sym k)
     (λ w there h g q a. let k = alone u size w in (
       λ x new expected. with-owner u (swapped (u .owner) new expected (h .initiator) path (p .link)) k
-          (after-swap (u .owner) new expected (h .initiator) path (p .link) (packet-path (p .packet) (u .number)) (low k there) (owner-works u k)) ∙ sym k,
+          (after-swap (u .owner) new expected (h .initiator) path (p .link) (packet-path (asRead p .packet) (u .number)) (low k there) (owner-works u k)) ∙ sym k,
       λ x word. (with-clock u (timeCodeWritten (u .clock) word) k (code-written (u .clock) word (clock-works u k)) ∙ sym k, refl),
     ))
   where
@@ -193,7 +194,7 @@ usable-packet u p lent d =
     size = length (lent .memory)
 
     path : Path
-    path = readPacket (p .packet) (u .number) .path
+    path = readPacket (asRead p .packet) (u .number) .path
 
     low : usableUnit u ≡ true → isLink u (p .link) ≡ true → p .link ≤ 31
     low k there =

@@ -5,7 +5,7 @@ use Prim.Native.Nat.{ℕ, _%_, _^_}
 use Rattle.packets.specs.declared.header.Header.{Header}
 use Rattle.packets.specs.declared.path.Path.{Path}
 use Rattle.unit.specs.Usable.{usableUnit}
-use Rattle.unit.specs.Given.{Arrived, Lent, sizesOf}
+use Rattle.unit.specs.Given.{Arrived, asRead, Lent, sizesOf}
 use Rattle.unit.specs.Clock.{afterTime, afterCode, afterTicks}
 use Rattle.unit.specs.Judge.{judged}
 use Rattle.unit.specs.Act.{stored, repliedTo, withClock, changed, countedUnit}
@@ -54,9 +54,13 @@ doneBy (Planned h plan) path u bytes link lent = acted plan u h path bytes link 
 abbrev pub done : Judgement → TheUnit → List ℕ → ℕ → Lent → Outcome
 done judgement u bytes link lent = doneBy (judgement .ruling) (judgement .path) u bytes link lent
 
--- A packet that arrived, with what is lent for it: judged, then done.
+-- A packet as it is read, with what is lent for it: judged, then done. (This is what became of every packet before request 2 of document 02.)
+abbrev pub takeRead : TheUnit → Arrived → Lent → Outcome
+takeRead u p lent = done (judged u p (sizesOf lent)) u (p .packet) (p .link) lent
+
+-- A packet that arrived.
 unfoldable pub takePacket : TheUnit → Arrived → Lent → Outcome
-takePacket u p lent = done (judged u p (sizesOf lent)) u (p .packet) (p .link) lent
+takePacket u p lent = takeRead u (asRead p) lent
 
 -- The small calls answer 1 (less its two memory causes) or 0.
 abbrev pub smallCall : TheUnit → TheUnit → Answer

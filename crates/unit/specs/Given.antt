@@ -2,6 +2,7 @@
 use mathlib.Core.List.{List}
 use Prim.Native.Nat.{ℕ}
 use lib.ListN.{length}
+use Rattle.packets.specs.Reading.{bare}
 use Rattle.packets.specs.declared.reading.End.{End}
 use Rattle.unit.specs.declared.judging.Sizes.{Sizes}
 
@@ -10,6 +11,10 @@ pub record Arrived : Type 0 where
   pub packet : List ℕ
   pub end : End
   pub link : ℕ
+
+-- What arrived, as it is read: without the zero that may stand in front of a plug-and-play packet (document 02, 2).
+abbrev pub asRead : Arrived → Arrived
+asRead p = record { packet = bare (p .packet); end = p .end; link = p .link }
 
 -- What is lent: memory, and a reply buffer.
 pub record Lent : Type 0 where

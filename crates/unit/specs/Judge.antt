@@ -1,5 +1,5 @@
 -- What a packet comes to, judged before anything is touched (document 01, 'Numbers a caller gets', 'Reading a packet'): from the unit, from what
--- arrived, and from the sizes of what is lent. Nothing here speaks of what memory holds.
+-- arrived, as it is read, and from the sizes of what is lent. Nothing here speaks of what memory holds.
 use mathlib.Core.Bool.{Bool, cond, not, _&&_}
 use mathlib.Core.List.{[]}
 use Prim.Native.Nat.{ℕ}

@@ -11,7 +11,7 @@ use crate::fate::Fate;
 use crate::judging::Judgement;
 use crate::judging::Ruling;
 use crate::judging::Sizes;
-use crate::judging::judge;
+use crate::judging::judge_read;
 use crate::unit::Unit;
 use packets::End;
 use packets::Header;
@@ -39,8 +39,9 @@ pub fn take_packet(
         memory: memory.len(),
         reply: reply.len(),
     };
-    let judgement = judge(unit, packet, end, link, sizes);
-    carry_out(judgement, unit, packet, link, memory, reply)
+    let bytes = packets::bare(packet);
+    let judgement = judge_read(unit, bytes, end, link, sizes);
+    carry_out(judgement, unit, bytes, link, memory, reply)
 }
 
 // Takes a Time-Code: its low six bits.

@@ -7,6 +7,7 @@ ghost use Rattle.packets.specs.Instruction.{headerSize};
 ghost use Rattle.packets.specs.Time.{readTime};
 ghost use Rattle.packets.specs.declared.header.Header.{Header as Header·Header};
 ghost use Rattle.packets.specs.declared.reading.Reading.the-variants.{Command};
+ghost use Rattle.unit.specs.Given.{asRead};
 ghost use Rattle.unit.specs.Judge.{timeRuling, rulingOn, judged};
 ghost use Rattle.unit.specs.Judge.{outright as Judge·outright};
 use crate::decide::Plan;
@@ -44,6 +45,14 @@ pub struct Judgement {
 
 // Judges a packet, without its end, that came on a link, with memory and a reply buffer of those sizes.
 pub fn judge(unit: Unit, packet: &[u8], end: End, link: u8, sizes: Sizes) -> Judgement
+    ensures { λ j. ⌜ j ≡ judged unit (asRead (record { packet = now (packet .entry); end = end; link = link })) sizes ⌝ }
+{
+    let bytes = packets::bare(packet);
+    judge_read(unit, bytes, end, link, sizes)
+}
+
+// Judges a packet as it is read.
+pub(crate) fn judge_read(unit: Unit, packet: &[u8], end: End, link: u8, sizes: Sizes) -> Judgement
     ensures { λ j. ⌜ j ≡ judged unit (record { packet = now (packet .entry); end = end; link = link }) sizes ⌝ }
 {
     if !unit.is_usable(sizes.memory) {

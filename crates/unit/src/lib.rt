@@ -2,8 +2,8 @@
 // octets alone. A call takes the unit by value and answers the unit after it; memory and reply buffer are lent. Every public function
 // takes any input, and promises an equation for what it answers and what it leaves.
 //
-// A packet's way: it is judged, then done. judging says what it comes to and touches nothing; where it is a command, decide makes the plan. calls follows
-// that: act writes the reply, stores, and has what changes in the unit; memory has the two functions that touch lent memory.
+// A packet's way: it is judged as it is read (packets::bare), then done. judging says what it comes to and touches nothing; where it is a command, decide makes the
+// plan. calls follows that: act writes the reply, stores, and has what changes in the unit; memory has the two functions that touch lent memory.
 mod act;
 mod calls;
 mod clock;

@@ -7,6 +7,13 @@ use packets::Reading;
 // The time number of the unit that would read them.
 const NUMBER: u8 = 0xf0;
 
+// A packet as it is to be read.
+pub(crate) fn bare(name: &[u8], packet: &[u8]) {
+    show::text(name);
+    show::text(b":");
+    show::line(packets::bare(packet));
+}
+
 // A packet, read to its parts and its path, or to the number of its refusal.
 pub(crate) fn read(name: &[u8], packet: &[u8]) {
     show::text(name);

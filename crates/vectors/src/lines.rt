@@ -65,6 +65,7 @@ fn run(line: &[u8]) {
         b'c' => crc(fields),
         b'l' => row(fields),
         b'i' => instructions::say(script::field(fields), script::byte(script::rest(fields))),
+        b'b' => bare(fields),
         b'p' => packet(fields),
         b'a' => address(fields),
         b's' => same(fields),
@@ -100,6 +101,12 @@ fn row(fields: &[u8]) {
         script::byte(running),
         script::number(count) as usize,
     );
+}
+
+fn bare(fields: &[u8]) {
+    let mut bytes = [0u8; 64];
+    let n = script::bytes(script::rest(fields), &mut bytes);
+    commands::bare(script::field(fields), &bytes[0..n]);
 }
 
 fn packet(fields: &[u8]) {

@@ -1,15 +1,16 @@
 //! What can come of a packet, a Time-Code, ticks or a bad record, and what came of those that ran.
 //!
-//! The outcome of a packet is its protocol and kind, as its bytes show them, with the fate and the status that were printed. A wrap of
-//! the Time-Codes, where the unit was shown before it and behind it, has one more: what it found, and what became of the time.
-//! `of_bench` and `of_units` say from document 01 which there are; what a run reaches has to be all of them, and no other.
+//! The outcome of a packet is what stands in front of it, its protocol and its kind, as its bytes show them, with the fate and the status
+//! that were printed. A wrap of the Time-Codes, where the unit was shown before it and behind it, has one more: what it found, and what
+//! became of the time. `of_bench` and `of_units` say from document 01, with requests 2 and 3 of document 02, which there are; what a run
+//! reaches has to be all of them, and no other.
 use std::collections::BTreeSet;
 use std::fmt;
 use stories::Flaw;
 
 #[derive(Clone, Copy, Debug, PartialEq, Eq, PartialOrd, Ord)]
 pub enum Outcome {
-    Packet(Protocol, Kind, u8, Option<u8>),
+    Packet(Front, Protocol, Kind, u8, Option<u8>),
     TimeCode(u8),
     Ticks(u8),
     /// With the kind of the record, where the flaw goes with one, else 0.
@@ -37,6 +38,19 @@ pub enum Became {
     Same,
     Next,
     Other,
+}
+
+/// What stands in front of the address and the protocol (request 2 of document 02).
+#[derive(Clone, Copy, Debug, PartialEq, Eq, PartialOrd, Ord)]
+pub enum Front {
+    Nothing,
+    /// One zero, with FE behind it: it is ignored before plug-and-play, and only there.
+    Zero,
+    /// Before FE 03, and not ignored.
+    TwoZeros,
+    AnotherByte,
+    /// One zero before plug-and-play to another address than FE, one that is no protocol's number: also not ignored.
+    AnotherAddress,
 }
 
 #[derive(Clone, Copy, Debug, PartialEq, Eq, PartialOrd, Ord)]
@@ -73,7 +87,9 @@ fn told(line: &str) -> Option<(u8, Option<u8>)> {
 
 impl Outcome {
     pub fn packet(packet: &[u8], line: &str) -> Option<Self> {
-        told(line).map(|(fate, status)| Outcome::Packet(protocol(packet), kind(packet), fate, status))
+        let (front, behind) = behind_front(packet);
+        let protocol = protocol(behind);
+        told(line).map(|(fate, status)| Outcome::Packet(front, protocol, kind(front, behind), fate, status))
     }
 
     pub fn time_code(line: &str) -> Option<Self> {
@@ -117,6 +133,19 @@ impl Outcome {
     }
 }
 
+/// What stands in front of a packet, and what follows.
+fn behind_front(packet: &[u8]) -> (Front, &[u8]) {
+    match packet {
+        [0, rest @ ..] if rest.starts_with(&[0xFE]) => (Front::Zero, rest),
+        [0, 0, rest @ ..] if rest.starts_with(&[0xFE, 3]) => (Front::TwoZeros, rest),
+        [_, rest @ ..] if rest.starts_with(&[0xFE, 3]) => (Front::AnotherByte, rest),
+        [0, rest @ ..] if rest.get(1) == Some(&3) && protocol(packet) == Protocol::Unknown => {
+            (Front::AnotherAddress, rest)
+        }
+        _ => (Front::Nothing, packet),
+    }
+}
+
 fn protocol(packet: &[u8]) -> Protocol {
     match packet {
         [] | [_] => Protocol::None,
@@ -128,9 +157,9 @@ fn protocol(packet: &[u8]) -> Protocol {
     }
 }
 
-fn kind(packet: &[u8]) -> Kind {
-    match (protocol(packet), packet) {
-        (Protocol::Rmap | Protocol::PlugAndPlay, [_, _, instruction, ..]) => match instruction >> 6 {
+fn kind(front: Front, behind: &[u8]) -> Kind {
+    match behind {
+        [_, _, instruction, ..] if COMMANDS.contains(&(front, protocol(behind))) => match instruction >> 6 {
             0 => Kind::Reply,
             1 => Kind::Code(instruction >> 2 & 15),
             _ => Kind::UnusedType,
@@ -139,38 +168,58 @@ fn kind(packet: &[u8]) -> Kind {
     }
 }
 
-/// The packets that have no code, and the fates without a status that they can have in any unit. Fate 2, a link that the unit does
-/// not have, is one of every packet's.
-const WITHOUT_STATUS: [(Protocol, Kind, &[u8]); 10] = [
-    (Protocol::None, Kind::None, &[2, 11]),
-    (Protocol::Extended, Kind::None, &[2, 13]),
-    (Protocol::Unknown, Kind::None, &[2, 12]),
-    (Protocol::Time, Kind::None, &[2, 12, 16, 19]),
-    (Protocol::Rmap, Kind::None, &[2, 11]),
-    (Protocol::Rmap, Kind::Reply, &[2, 14]),
-    (Protocol::Rmap, Kind::UnusedType, &[2, 11, 15]),
-    (Protocol::PlugAndPlay, Kind::None, &[2, 11]),
-    (Protocol::PlugAndPlay, Kind::Reply, &[2, 14]),
-    (Protocol::PlugAndPlay, Kind::UnusedType, &[2, 11, 15]),
+/// What is read as a command or a reply.
+const COMMANDS: [(Front, Protocol); 3] =
+    [(Front::Nothing, Protocol::Rmap), (Front::Nothing, Protocol::PlugAndPlay), (Front::Zero, Protocol::PlugAndPlay)];
+
+/// What is not, and the fates that it can have in any unit. Fate 2, a link that the unit does not have, is one of every packet's.
+const NO_COMMANDS: [(Front, Protocol, &[u8]); 12] = [
+    (Front::Nothing, Protocol::None, &[11]),
+    (Front::Nothing, Protocol::Extended, &[13]),
+    (Front::Nothing, Protocol::Unknown, &[12]),
+    (Front::Nothing, Protocol::Time, &[12, 16, 19]),
+    // The second byte stays the protocol. Where it is FE, that is never the bench's time number.
+    (Front::Zero, Protocol::None, &[12]),
+    (Front::Zero, Protocol::Extended, &[12]),
+    (Front::Zero, Protocol::Unknown, &[12]),
+    (Front::Zero, Protocol::Time, &[12]),
+    (Front::Zero, Protocol::Rmap, &[12]),
+    (Front::TwoZeros, Protocol::PlugAndPlay, &[13]),
+    (Front::AnotherByte, Protocol::PlugAndPlay, &[12]),
+    (Front::AnotherAddress, Protocol::PlugAndPlay, &[12]),
 ];
+
+/// All packets, by what their bytes show.
+fn packets() -> impl Iterator<Item = (Front, Protocol, Kind)> {
+    let kinds = || [Kind::None, Kind::Reply, Kind::UnusedType].into_iter().chain((0..16).map(Kind::Code));
+    let commands =
+        COMMANDS.into_iter().flat_map(move |(front, protocol)| kinds().map(move |kind| (front, protocol, kind)));
+    NO_COMMANDS.into_iter().map(|(front, protocol, _)| (front, protocol, Kind::None)).chain(commands)
+}
 
 /// What packets come to, whatever the unit: the fates without a status, then those with one.
 fn of_packets() -> BTreeSet<Outcome> {
-    let mut all = BTreeSet::new();
-    for (protocol, kind, fates) in WITHOUT_STATUS {
-        all.extend(fates.iter().map(|fate| Outcome::Packet(protocol, kind, *fate, None)));
+    let mut all: BTreeSet<_> =
+        packets().map(|(front, protocol, kind)| Outcome::Packet(front, protocol, kind, 2, None)).collect();
+    for (front, protocol, fates) in NO_COMMANDS {
+        all.extend(fates.iter().map(|fate| Outcome::Packet(front, protocol, Kind::None, *fate, None)));
     }
-    for protocol in [Protocol::Rmap, Protocol::PlugAndPlay] {
-        all.extend([17, 20].map(|fate| Outcome::Packet(protocol, Kind::UnusedType, fate, Some(2))));
+    for (front, protocol) in COMMANDS {
+        let outcome = |kind, fate, status| Outcome::Packet(front, protocol, kind, fate, status);
+        all.extend([outcome(Kind::None, 11, None), outcome(Kind::Reply, 14, None)]);
+        all.extend([11, 15].map(|fate| outcome(Kind::UnusedType, fate, None)));
+        all.extend([17, 20].map(|fate| outcome(Kind::UnusedType, fate, Some(2))));
         for code in 0..16 {
-            all.extend([2, 11, 15].map(|fate| Outcome::Packet(protocol, Kind::Code(code), fate, None)));
-            all.extend(statuses(protocol, code).iter().map(|status| {
+            all.extend([11, 15].map(|fate| outcome(Kind::Code(code), fate, None)));
+            // What stands behind the zero is addressed to FE.
+            let statuses = statuses(protocol, code).iter().filter(|status| front == Front::Nothing || **status != 12);
+            all.extend(statuses.map(|status| {
                 let fate = match (wants_reply(code), status) {
                     (true, _) => 20,
                     (false, 0) => 18,
                     (false, _) => 17,
                 };
-                Outcome::Packet(protocol, Kind::Code(code), fate, Some(*status))
+                outcome(Kind::Code(code), fate, Some(*status))
             }));
         }
     }
@@ -185,7 +234,7 @@ fn wants_reply(code: u8) -> bool {
 /// from a single address can ask for more than the reply buffer holds.
 pub fn of_bench() -> BTreeSet<Outcome> {
     let mut all = of_packets();
-    all.insert(Outcome::Packet(Protocol::Rmap, Kind::Code(0b0010), 3, None));
+    all.insert(Outcome::Packet(Front::Nothing, Protocol::Rmap, Kind::Code(0b0010), 3, None));
     all.extend([Outcome::TimeCode(0), Outcome::Ticks(0)]);
     all.extend([Flaw::Mark, Flaw::Kind, Flaw::CutHead].map(|flaw| Outcome::Bad(flaw, 0)));
     // A packet may have any link.
@@ -196,18 +245,27 @@ pub fn of_bench() -> BTreeSet<Outcome> {
     all
 }
 
-/// All outcomes of units of every kind: any call may find its unit unusable, and any reply its buffer too short. What comes of a wrap
-/// shows here alone, since the bench does not print its time.
+/// All outcomes of units of every kind: any call may find its unit unusable, any reply its buffer too short, and FE may be the time number.
+/// What comes of a wrap shows here alone, since the bench does not print its time.
 pub fn of_units() -> BTreeSet<Outcome> {
     let mut all = of_packets();
     all.extend([0, 1].map(Outcome::TimeCode));
     all.extend([0, 1].map(Outcome::Ticks));
-    all.extend(WITHOUT_STATUS.map(|(protocol, kind, _)| Outcome::Packet(protocol, kind, 1, None)));
-    for protocol in [Protocol::Rmap, Protocol::PlugAndPlay] {
-        all.insert(Outcome::Packet(protocol, Kind::UnusedType, 3, None));
-        all.extend((0..16).map(|code| Outcome::Packet(protocol, Kind::Code(code), 1, None)));
-        let replying = (0..16).filter(|code| wants_reply(*code));
-        all.extend(replying.map(|code| Outcome::Packet(protocol, Kind::Code(code), 3, None)));
+    for (front, protocol, kind) in packets() {
+        let outcome = |fate| Outcome::Packet(front, protocol, kind, fate, None);
+        all.insert(outcome(1));
+        let may_reply = match kind {
+            Kind::None | Kind::Reply => false,
+            Kind::UnusedType => true,
+            Kind::Code(code) => wants_reply(code),
+        };
+        if may_reply {
+            all.insert(outcome(3));
+        }
+        // With FE behind a byte that is not ignored.
+        if matches!(front, Front::Zero | Front::AnotherByte) && !COMMANDS.contains(&(front, protocol)) {
+            all.insert(outcome(16));
+        }
     }
     for last in [false, true] {
         for (fraction, became) in WRAPS {
@@ -245,7 +303,10 @@ fn statuses(protocol: Protocol, code: u8) -> &'static [u8] {
 impl fmt::Display for Outcome {
     fn fmt(&self, f: &mut fmt::Formatter<'_>) -> fmt::Result {
         match self {
-            Outcome::Packet(protocol, kind, fate, status) => {
+            Outcome::Packet(front, protocol, kind, fate, status) => {
+                if *front != Front::Nothing {
+                    write!(f, "{front:?} before ")?;
+                }
                 write!(f, "{protocol:?}, ")?;
                 match kind {
                     Kind::Code(code) => write!(f, "code {code:04b}")?,
@@ -265,9 +326,10 @@ mod tests {
 
     /// Counted by hand, code by code. RMAP: no instruction 2, replies 2, unused types 5, five unused codes with 4 each, the reads 9
     /// each, read-modify-write 12, four writes with 11 each, four verified writes with 12 each: 151. Plug-and-play: 2, 2, 5, 20, reads
-    /// 6 and 10, read-modify-write 14, the seven other writes with 6 each, the one that fields take 15: 116. No protocol, extended and
-    /// unknown 2 each, time 4.
-    const PACKETS: usize = 151 + 116 + 10;
+    /// 6 and 10, read-modify-write 14, the seven other writes with 6 each, the one that fields take 15: 116. Behind the zero the same less
+    /// status 12, which each of the eleven used codes has: 105. No protocol, extended and unknown 2 each, time 4. Fronts that are not
+    /// ignored, with 2 each: the zero before no protocol and before four others, two zeros, another byte, another address.
+    const PACKETS: usize = 151 + 116 + 105 + 10 + 8 * 2;
 
     /// A reply too long, a Time-Code, ticks; three flaws of any record, one of two kinds, and three of each kind.
     #[test]
@@ -275,21 +337,64 @@ mod tests {
         assert_eq!(of_bench().len(), PACKETS + 1 + 2 + 3 + 2 + 9);
     }
 
-    /// Unusable: four without an instruction, and for each of two protocols three without a code and sixteen with one. A reply too long:
-    /// for each, an unused type and the eight codes that want one. Time-Code and ticks, taken or not. Wraps: four fractions, in the last
-    /// second or another, with a value that waits or none.
+    /// Unusable: four without an instruction and eight with a front that is not ignored; RMAP, plug-and-play and that behind the zero, each
+    /// three without a code and sixteen with one. A reply too long: for each of the three, an unused type and the eight codes that want one.
+    /// Time number FE: the zero before no protocol and before four others, and another byte. Time-Code and ticks, taken or not. Wraps: four
+    /// fractions, in the last second or another, with a value that waits or none.
     #[test]
     fn of_units_as_counted_by_hand() {
-        assert_eq!(of_units().len(), PACKETS + 4 + 2 * 19 + 2 * 9 + 4 + 4 * 2 * 2);
+        assert_eq!(of_units().len(), PACKETS + 4 + 8 + 3 * 19 + 3 * 9 + 6 + 4 + 4 * 2 * 2);
     }
 
     #[test]
     fn a_line_is_read() {
-        let read = Outcome::packet(&[0xFE, 3, 0x4C, 0], "7 20 f1 13 00");
-        assert_eq!(read, Some(Outcome::Packet(Protocol::PlugAndPlay, Kind::Code(3), 20, Some(0xF1))));
+        let read = |packet: &[u8]| match Outcome::packet(packet, "7 20 f1 13 00") {
+            Some(Outcome::Packet(front, protocol, kind, 20, Some(0xF1))) => (front, protocol, kind),
+            other => panic!("{other:?}"),
+        };
+        use {Front::*, Kind::Code, Protocol::*};
+        let cases: [(&[u8], Front, Protocol, Kind); 22] = [
+            (&[0xFE, 3, 0x4C, 0], Nothing, PlugAndPlay, Code(3)),
+            (&[0x43, 1, 0x4C, 0], Nothing, Rmap, Code(3)),
+            (&[0, 0xFE, 3, 0x4C, 0], Zero, PlugAndPlay, Code(3)),
+            (&[0, 0xFE, 3, 0x0C], Zero, PlugAndPlay, Kind::Reply),
+            (&[0, 0xFE, 3, 0x8C], Zero, PlugAndPlay, Kind::UnusedType),
+            (&[0, 0xFE, 3], Zero, PlugAndPlay, Kind::None),
+            (&[0, 0xFE], Zero, Protocol::None, Kind::None),
+            (&[0, 0xFE, 0, 0x4C], Zero, Extended, Kind::None),
+            (&[0, 0xFE, 1, 0x4C], Zero, Rmap, Kind::None),
+            (&[0, 0xFE, 2, 0x4C], Zero, Unknown, Kind::None),
+            (&[0, 0xFE, 0xF0, 0x9F], Zero, Time, Kind::None),
+            (&[0, 0, 0xFE, 3, 0x4C], TwoZeros, PlugAndPlay, Kind::None),
+            (&[0, 0, 0xFE, 1, 0x4C], Nothing, Extended, Kind::None),
+            (&[1, 0xFE, 3, 0x4C], AnotherByte, PlugAndPlay, Kind::None),
+            (&[1, 0xFE, 0x9F, 1], Nothing, Time, Kind::None),
+            (&[0, 0x43, 3, 0x4C], AnotherAddress, PlugAndPlay, Kind::None),
+            (&[1, 0x43, 3, 0x4C], Nothing, Unknown, Kind::None),
+            // The second byte is a protocol's number.
+            (&[0, 0, 3, 0x4C], Nothing, Extended, Kind::None),
+            (&[0, 1, 3, 0x4C], Nothing, Rmap, Kind::Reply),
+            (&[0, 3, 3, 0x4C], Nothing, PlugAndPlay, Kind::Reply),
+            (&[0, 0xFD, 3, 0x4C], Nothing, Time, Kind::None),
+            (&[0], Nothing, Protocol::None, Kind::None),
+        ];
+        for (packet, front, protocol, kind) in cases {
+            assert_eq!(read(packet), (front, protocol, kind), "{packet:02X?}");
+        }
         let short = Outcome::packet(&[0xFE], "packet: 11 - 0 buffer 00:");
-        assert_eq!(short, Some(Outcome::Packet(Protocol::None, Kind::None, 11, None)));
-        assert_eq!(Outcome::packet(&[], "bad 7"), None);
+        assert_eq!(short, Some(Outcome::Packet(Nothing, Protocol::None, Kind::None, 11, Option::None)));
+        assert_eq!(Outcome::packet(&[], "bad 7"), Option::None);
+    }
+
+    #[test]
+    fn an_outcome_is_told() {
+        let text = |packet: &[u8], line| Outcome::packet(packet, line).expect("it is a packet's").to_string();
+        assert_eq!(text(&[0xFE, 3, 0x4C], "7 11 - 0"), "PlugAndPlay, code 0011, fate 11");
+        assert_eq!(
+            text(&[0, 0xFE, 3, 0x4C], "7 20 f1 13 00"),
+            "Zero before PlugAndPlay, code 0011, fate 20, status f1"
+        );
+        assert_eq!(text(&[0, 0xFE, 1, 0x4C], "7 12 - 0"), "Zero before Rmap, None, fate 12");
     }
 
     #[test]

@@ -129,7 +129,12 @@ fn say(out: &mut String, what: std::fmt::Arguments) {
 }
 
 #[cfg(test)]
+#[path = "../../model/tests/paper/wrong_zeros.rs"]
+mod wrong_zeros;
+
+#[cfg(test)]
 mod tests {
+    use super::wrong_zeros::WRONG;
     use super::*;
     use crate::shortest::shortest;
 
@@ -197,19 +202,12 @@ mod tests {
         ("the first does not follow it", |t| t - t % SECOND + if t % SECOND >= HALF { SECOND } else { 0 }),
     ];
 
-    /// The fewest lines of a seed's scripts that print something else where `slip` comes behind each wrap. It is given the unit before
-    /// the wrap and the unit behind it.
-    fn shown(slip: impl Fn(&Unit, &mut Unit)) -> Vec<Line> {
+    /// The fewest lines of a seed's scripts of which a wrong program, given a desk and a line at a time, prints something else.
+    fn shown(run: impl Fn(&mut Desk, &Line, &mut String)) -> Vec<Line> {
         let slipped = |lines: &[Line]| {
             let mut desk = Desk::fresh(0);
             let mut out = String::new();
-            for line in lines {
-                let before = desk.unit.clone();
-                desk.run(line, &mut out);
-                if matches!(line, Line::TimeCode(_)) && (before.last_time_code, desk.unit.last_time_code) == (63, 0) {
-                    slip(&before, &mut desk.unit);
-                }
-            }
+            lines.iter().for_each(|line| run(&mut desk, line, &mut out));
             out.into_bytes()
         };
         let differs = |lines: &[Line]| slipped(lines) != printed(lines);
@@ -218,16 +216,27 @@ mod tests {
         shortest(&row, differs)
     }
 
+    /// The fewest lines where `slip` comes behind each wrap. It is given the unit before the wrap and the unit behind it.
+    fn shown_by_wraps(slip: impl Fn(&Unit, &mut Unit)) -> Vec<Line> {
+        shown(|desk, line, out| {
+            let before = desk.unit.clone();
+            desk.run(line, out);
+            if matches!(line, Line::TimeCode(_)) && (before.last_time_code, desk.unit.last_time_code) == (63, 0) {
+                slip(&before, &mut desk.unit);
+            }
+        })
+    }
+
     /// Each shows by a Time-Code and what the unit holds then, and few lines in front.
     #[test]
     fn wrong_wraps() {
         for (name, rule) in RULES {
-            let lines = shown(|before, unit| {
+            let lines = shown_by_wraps(|before, unit| {
                 if before.waiting.is_none() {
                     unit.elapsed.t = rule(before.elapsed.t);
                 }
             });
-            assert!(matches!(lines[..], [.., Line::TimeCode(_), Line::Holds]) && lines.len() < 8, "{name}: {lines:?}");
+            assert!(matches!(lines[..], [.., Line::TimeCode(_), Line::Holds]) && lines.len() < 9, "{name}: {lines:?}");
         }
     }
 
@@ -235,12 +244,27 @@ mod tests {
     #[test]
     fn a_waiting_value_that_loses() {
         for half in [false, true] {
-            let lines = shown(|before, unit| {
+            let lines = shown_by_wraps(|before, unit| {
                 if before.waiting.is_some() && half == (before.elapsed.t % SECOND >= HALF) {
                     unit.elapsed = Time { t: full(before.elapsed.t, half), ..before.elapsed };
                 }
             });
-            assert!(matches!(lines[..], [.., Line::TimeCode(_), Line::Holds]) && lines.len() < 8, "{half}: {lines:?}");
+            assert!(matches!(lines[..], [.., Line::TimeCode(_), Line::Holds]) && lines.len() < 9, "{half}: {lines:?}");
+        }
+    }
+
+    /// Wrong rules for the zero in front of plug-and-play: each shows by one packet, and few lines in front of it.
+    #[test]
+    fn wrong_zeros() {
+        for (name, rule) in WRONG {
+            let lines = shown(|desk, line, out| match line {
+                Line::Packet { link, room, eep, bytes } => {
+                    let bytes = rule(bytes, desk.unit.time_number);
+                    desk.run(&Line::Packet { link: *link, room: *room, eep: *eep, bytes }, out);
+                }
+                other => desk.run(other, out),
+            });
+            assert!(matches!(lines[..], [.., Line::Packet { .. }]) && lines.len() < 5, "{name}: {lines:?}");
         }
     }
 }

@@ -61,6 +61,19 @@ fn a_wrong_time_code() {
     assert!(matches!(records[..], [Record::TimeCode(code), Record::Packet { .. }] if code & 63 == 63), "{records:?}");
 }
 
+/// A zero that is not ignored shows by the shortest packet that begins with it: any other byte in its place has the fate that it had.
+#[test]
+fn a_zero_that_is_not_ignored() {
+    let records = shown(|log| {
+        slipped(log, |record| {
+            if record[2] == 1 && record[7..].starts_with(&[0, 0xFE, 3]) {
+                record[7] = 1;
+            }
+        })
+    });
+    assert!(matches!(&records[..], [Record::Packet { bytes, .. }] if bytes[..] == [0, 0xFE, 3]), "{records:?}");
+}
+
 /// EEP taken for EOP shows in one packet.
 #[test]
 fn an_end_that_is_not_looked_at() {

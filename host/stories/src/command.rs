@@ -1,6 +1,7 @@
 //! A command in its parts, its bytes (document 01, 'Reading a packet'), and the one damage that it may come with.
 use crate::chance::Chance;
 use crate::record::{BODY, Record};
+use crate::zero;
 use model::crc;
 
 pub const RMAP: u8 = 1;
@@ -98,39 +99,41 @@ impl Command {
 
     /// One part is wrong, under a CRC that is right.
     fn with_a_wrong_part(mut self, chance: &mut Chance) -> Self {
-        match chance.below(10) {
-            0 => self.key ^= 1 << chance.below(8),
-            1 => self.target ^= 1 << chance.below(8),
-            2 => self.extended = 1 << chance.below(8),
-            3 => self.kind = chance.pick(&[0, 2, 3]),
-            4 => self.length = self.length.wrapping_add(chance.pick(&[1, 2, u32::MAX])) & 0xFF_FFFF,
-            5 => self.length ^= 1 << chance.below(24),
-            6 => self.address ^= 1 << chance.below(32),
-            7 => self.code = chance.below(16) as u8,
+        match chance.below(12) {
+            0 | 1 => self.key ^= 1 << chance.below(8),
+            2 | 3 => self.target ^= 1 << chance.below(8),
+            4 => self.extended = 1 << chance.below(8),
+            5 => self.kind = chance.pick(&[0, 2, 3]),
+            6 => self.length = self.length.wrapping_add(chance.pick(&[1, 2, u32::MAX])) & 0xFF_FFFF,
+            7 => self.length ^= 1 << chance.below(24),
+            8 => self.address ^= 1 << chance.below(32),
+            9 => self.code = chance.below(16) as u8,
             _ => self.sender.link = chance.pick(&[0, 5, 6, 31, 32, 33, 64, 128, 255]),
         }
         self
     }
 
-    /// Bytes are wrong, missing or too many, or the packet ended by EEP.
+    /// Bytes are wrong, missing or too many, also in front, or the packet ended by EEP.
     fn with_wrong_bytes(self, chance: &mut Chance) -> Record {
         let header = self.header_size();
         let mut bytes = self.bytes();
         let mut eep = false;
         let (any, bit) = (chance.below(bytes.len()), 1 << chance.below(8));
-        match chance.below(10) {
-            0 => eep = true,
-            1 | 2 => bytes[header - 1] ^= bit,
-            3 => *bytes.last_mut().expect("a header is there") ^= bit,
-            4 => bytes[any] ^= bit,
-            5 => bytes.truncate(any),
-            6 => {
+        match chance.below(14) {
+            0 | 1 => eep = true,
+            2 | 3 => bytes[header - 1] ^= bit,
+            4 | 5 => *bytes.last_mut().expect("a header is there") ^= bit,
+            6 => bytes[any] ^= bit,
+            7 => bytes.truncate(any),
+            8 => {
                 // Behind the reply address: initiator, transaction, extended address, address, length.
                 let behind = 4 + self.sender.reply_address.len() + chance.pick(&[0, 1, 3, 4, 8, 11]);
                 bytes.truncate(if chance.one_in(2) { chance.below(5) } else { behind });
             }
-            7 => bytes.truncate(header + chance.below(3)),
-            8 => bytes.push(bit),
+            9 => bytes.truncate(header + chance.below(3)),
+            10 => bytes.truncate(bytes.len() - 1),
+            11 => bytes.push(bit),
+            12 => drop(bytes.splice(0..0, zero::wrong(chance))),
             _ => bytes.extend(chance.bytes(40).drain(any % 38..)),
         }
         bytes.truncate(BODY);

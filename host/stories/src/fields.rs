@@ -62,6 +62,15 @@ pub fn other(from: &Sender, chance: &mut Chance) -> Command {
     }
 }
 
+/// Every code as often as any other, and many writes of fields that the owner writes.
+pub fn every(from: &Sender, chance: &mut Chance) -> Command {
+    if chance.one_in(4) {
+        return write(from, chance);
+    }
+    let code = chance.below(16) as u8;
+    any(from, code, 4, chance)
+}
+
 fn any(from: &Sender, code: u8, length: u32, chance: &mut Chance) -> Command {
     let address = address(chance);
     let data = chance.bytes((length as usize).min(80));

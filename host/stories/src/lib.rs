@@ -13,6 +13,7 @@ mod record;
 mod script;
 mod story;
 mod time;
+mod zero;
 
 pub use log::{SIZES, log, right_log};
 pub use record::{Flaw, Record, bytes};

@@ -132,7 +132,8 @@ fn set_up(memory: usize, lines: &mut Vec<Line>, chance: &mut Chance) -> Ground {
     use Setting::*;
     let mut set = |setting, value: u64| lines.push(Line::Set(setting, value));
     let links = 1 + chance.below(31) as u8;
-    let time = 0xF0 + chance.below(15) as u8;
+    // Often FE: that address stands where the protocol should, if there is a zero in front of it.
+    let time = if chance.one_in(4) { 0xFE } else { 0xF0 + chance.below(15) as u8 };
     set(Links, links.into());
     set(TimeNumber, time.into());
     for field in [Vendor, Version, Status, ActiveLinks, LinkInformation, UnitVendor, UnitSerial, BaseRate, Divider] {
@@ -202,6 +203,8 @@ fn spoilt(memory: usize, chance: &mut Chance) -> Line {
 /// A reply buffer for a packet: large, or about as large as its reply.
 fn room(packet: &[u8], chance: &mut Chance) -> usize {
     let near = chance.below(3);
+    // The zero of a path has no part in the reply.
+    let packet = packet.strip_prefix(&[0]).unwrap_or(packet);
     let size = packet.get(2).map_or(0, |instruction| 4 * usize::from(instruction & 3));
     let path = packet.get(4..4 + size).map_or(0, |reply_address| path(reply_address).len());
     let length = match packet.get(12 + size..15 + size) {

@@ -4,7 +4,7 @@ use crate::command::{Command, Sender};
 use crate::fields::Ownership;
 use crate::ground::Ground;
 use crate::record::{BODY, Record};
-use crate::{fields, memory, time};
+use crate::{fields, memory, time, zero};
 
 pub struct Story {
     pub chance: Chance,
@@ -13,13 +13,17 @@ pub struct Story {
     ownership: Ownership,
     /// The Time-Code that was sent last.
     code: u8,
+    /// One in so many packets comes with the last zero of its path.
+    zeros: usize,
     pub records: Vec<Record>,
 }
 
 impl Story {
     pub fn new(mut chance: Chance, ground: Ground) -> Self {
         let senders = senders(&ground, &mut chance);
-        Story { chance, ground, senders, ownership: Ownership::default(), code: 0, records: Vec::new() }
+        // Most interfaces strip it.
+        let zeros = if chance.one_in(8) { 3 } else { 40 };
+        Story { chance, ground, senders, ownership: Ownership::default(), code: 0, zeros, records: Vec::new() }
     }
 
     /// Adds a claim of the unit, if it is free.
@@ -32,7 +36,7 @@ impl Story {
     pub fn go_on(&mut self) {
         let chance = &mut self.chance;
         let whole = chance.one_in(2);
-        match chance.below(32) {
+        match chance.below(35) {
             0..=11 => {
                 let sender = &self.senders[chance.below(self.senders.len())];
                 let command = memory::command(sender, &self.ground, chance);
@@ -50,7 +54,8 @@ impl Story {
             }
             27 => {
                 let link = link(&self.ground, chance);
-                self.records.push(time::packet(self.ground.time, link, whole, chance));
+                let packet = time::packet(self.ground.time, link, whole, chance);
+                self.add(packet);
             }
             28 => match chance.below(6) {
                 0 | 1 => time::wrap(self.ground.time, self.senders[0].link, &mut self.code, &mut self.records, chance),
@@ -58,12 +63,31 @@ impl Story {
                 _ => time::codes(&mut self.code, &mut self.records, chance),
             },
             29 => self.records.push(time::ticks(chance)),
-            _ => self.records.push(noise(&self.ground, chance)),
+            30 | 31 => {
+                let packet = noise(&self.ground, chance);
+                self.add(packet);
+            }
+            32 => {
+                let link = link(&self.ground, chance);
+                self.records.push(zero::noise(link, chance));
+            }
+            _ => {
+                let sender = self.ownership.sender(&self.senders, chance);
+                let packet = fields::every(&sender, chance).damaged(chance);
+                self.records.push(zero::before(packet));
+            }
         }
     }
 
     fn send(&mut self, command: Command, whole: bool) {
-        self.records.push(if whole { command.whole() } else { command.damaged(&mut self.chance) });
+        let packet = if whole { command.whole() } else { command.damaged(&mut self.chance) };
+        self.add(packet);
+    }
+
+    /// Adds a packet, perhaps with the zero in front, which changes nothing for plug-and-play.
+    fn add(&mut self, packet: Record) {
+        let zero = self.chance.one_in(self.zeros);
+        self.records.push(if zero { zero::before(packet) } else { packet });
     }
 }
 

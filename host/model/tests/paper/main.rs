@@ -12,3 +12,5 @@ mod rmap;
 mod slips;
 mod time;
 mod total;
+mod wrong_zeros;
+mod zero;

@@ -1,4 +1,4 @@
--- `unit::calls::take_packet` meets its contract: it is judged, then done; the places are there by what a judgement allows.
+-- `unit::calls::take_packet` meets its contract: as it is read, it is judged, then done; the places are there by what a judgement allows.
 use Rattle.unit.specs.Calls.{takePacket}
 use Rattle.unit.proofs.GrantLaws.{judged-allowed}
 use denote.Ref.{now}
@@ -7,15 +7,18 @@ use borrow.Author.Needs.{needs}
 use Rattle.unit.proofs.calls.take_packet.Statement.{statement}
 use Rattle.unit.proofs.calls.take_packet.Tie as tie
 
-judge-requires : tie.Need-judge-requires
-judge-requires c κs = search needs
+bare-requires : tie.Need-bare-requires
+bare-requires c κs = search needs
+
+judge-read-requires : tie.Need-judge-read-requires
+judge-read-requires c κs = search needs
 
 carry-out-requires : tie.Need-carry-out-requires
 carry-out-requires c κs =
-    let c4 = c .before .before .before .before in
-    let a = c4 .before .before .args in
-    rw (c .before .before .judge .ensures)
-    (judged-allowed (a .unit) (record { packet = now (a .packet); end = a .end; link = a .link }) (record { memory = length (now (a .memory)); reply = length (now (a .reply)) }))
+    let c3 = c .before .before .before in
+    let a = c3 .before .before .before .before .args in
+    rw (c .before .before .judge-read .ensures)
+    (judged-allowed (a .unit) (record { packet = now (c3 .bare .result); end = a .end; link = a .link }) (record { memory = length (now (a .memory)); reply = length (now (a .reply)) }))
 
 same-length : tie.Need-same-length
 same-length c = search needs
@@ -27,8 +30,9 @@ returns : tie.Need-returns
 unfolding takePacket
 returns c =
     let c4 = c .before .before .before .before in
-    rw (← c4 .before .before .before .judge .ensures) (c4 .carry-out .ensures)
+    let c7 = c4 .before .before .before in
+    rw (← c7 .before .bare .ensures, ← c7 .judge-read .ensures) (c4 .carry-out .ensures)
 
 pub take-packet-spec : {M : Type 1} → statement M
 take-packet-spec =
-    tie.close (tie.spec judge-requires carry-out-requires same-length same-length-2 returns)
+    tie.close (tie.spec bare-requires judge-read-requires carry-out-requires same-length same-length-2 returns)
