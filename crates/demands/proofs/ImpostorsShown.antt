@@ -16,7 +16,7 @@ use Rattle.packets.specs.Header.{partsAt}
 use Rattle.packets.specs.Reading.{bare, readCommand, readProtocol, readPacket}
 use Rattle.packets.specs.Reply.{replyWith, replyLength, replied}
 use Rattle.packets.specs.declared.header.Header.{Header}
-use Rattle.packets.specs.declared.reading.Reading.the-variants.{Refused, Command}
+use Rattle.packets.specs.declared.reading.Reading.the-variants.{Refused}
 use Rattle.packets.specs.declared.reading.Refusal.the-variants.{HeaderCrc}
 use Rattle.packets.proofs.ReadingLaws.{one-command, not-command}
 use Rattle.unit.specs.Fate.{fateNumber, fateStatus}

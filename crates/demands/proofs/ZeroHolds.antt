@@ -15,13 +15,13 @@ use Rattle.packets.specs.declared.reading.Refusal.the-variants.{UnknownProtocol
 use Rattle.packets.specs.declared.time.TimeReading.the-variants.{ThrownAway, Taken}
 use Rattle.packets.proofs.BareLaws.{bare-lacks, bare-zero, bare-other, bare-once, bare-rmap}
 use Rattle.packets.proofs.ReadingLaws.{protocol-time, protocol-other-number, packet-protocol}
-use Rattle.unit.specs.Given.{Arrived, asRead, Lent}
+use Rattle.unit.specs.Given.{Arrived, Lent}
 use Rattle.unit.specs.Judge.{judged}
-use Rattle.unit.specs.Calls.{Outcome, takeRead, takePacket}
+use Rattle.unit.specs.Calls.{takeRead, takePacket}
 use Rattle.unit.specs.declared.unit.Unit.{Unit as TheUnit}
 use Rattle.demands.specs.Terminal.{ours}
 use Rattle.demands.specs.Lists.{NoneWithZero}
-use Rattle.demands.specs.Zero.{BeginsSo, withBytes, AsWithoutIt, OthersAsBefore, TakenOnce, WasRefused}
+use Rattle.demands.specs.Zero.{withBytes, AsWithoutIt, OthersAsBefore, TakenOnce, WasRefused}
 
 -- two packets of one end and link that are read as the same bytes have one outcome
 same-bytes : (u : TheUnit) (p : Arrived) (lent : Lent) {a b : List ℕ} → a ≡ b → takeRead u (withBytes p a) lent ≡ takeRead u (withBytes p b) lent

@@ -1,5 +1,5 @@
 -- What does not take the zero off, or not everywhere, is shut out: by a claim behind a zero.
-use mathlib.Core.Path.{_≡_, refl, sym, _∙_, ap}
+use mathlib.Core.Path.{_≡_, refl, ap}
 use mathlib.Core.List.{List, [], _∷_}
 use Prim.Native.Nat.{ℕ}
 use native.Mathlib.Omega.{arith}
@@ -9,7 +9,6 @@ use Rattle.packets.specs.Instruction.{kindOf}
 use Rattle.packets.specs.Path.{withoutLeadingZeros, orOneZero, pathOf, samePath}
 use Rattle.packets.specs.Reading.{bare, readCommand, readProtocol, readPacket}
 use Rattle.packets.specs.Reply.{replyWith, replyLength, replied}
-use Rattle.unit.specs.Fate.{fateNumber}
 use Rattle.unit.specs.Counters.{countedFor}
 use Rattle.unit.specs.Usable.{usableUnit, usable}
 use Rattle.unit.specs.Fields.{rowOf}
@@ -19,7 +18,7 @@ use Rattle.unit.specs.Judge.{judged}
 use Rattle.unit.specs.Act.{stored, dataFor, repliedTo, changed}
 use Rattle.unit.specs.Owner.{swapped}
 use Rattle.unit.specs.Calls.{Outcome, takePacket}
-use Rattle.demands.specs.Terminal.{Terminal}
+use Rattle.demands.specs.Terminal.{Terminal, ours}
 use Rattle.demands.specs.Demands.{Demand1}
 use Rattle.demands.specs.Zero.{AsWithoutIt}
 use Rattle.demands.specs.Impostors.{readsTheZero, shiftsData}
@@ -39,23 +38,22 @@ zeroed = 0x00 ∷ claim
 zeroed-bytes : Digits 256 zeroed
 zeroed-bytes = tested zeroed refl
 
--- Device ID afterwards
-abbrev claimed : Terminal → List ℕ → ℕ
-claimed t p = t .packet (unit 0) (arrived p 1) (lent memory buffer) .answer .unit .owner .device
+-- the Device ID that an outcome leaves, and a packet to the unit
+abbrev device : Outcome → ℕ
+device o = o .answer .unit .owner .device
 
--- ours is claimed behind a zero as without it, and so are they without it; behind it they are not
+abbrev claimed : Terminal → List ℕ → ℕ
+claimed t p = device (t .packet (unit 0) (arrived p 1) (lent memory buffer))
+
+-- ours is claimed behind a zero; they are claimed without it, and not behind it
 computed :
-    (takePacket (unit 0) (arrived zeroed 1) (lent memory buffer) .answer .unit .owner .device ≡ 5)
+    (claimed ours zeroed ≡ 5)
     × (claimed readsTheZero claim ≡ 5)
     × (claimed readsTheZero zeroed ≡ 0)
     × (claimed shiftsData claim ≡ 5)
     × (claimed shiftsData zeroed ≡ 0)
 unfolding takePacket bare judged decidedOn decidedByData plannedFor headerStatus openingStatus fieldsStatus namesFields rowOf wantedCount dataStatus replyCount stored dataFor repliedTo changed swapped countedFor usable usableUnit readPacket readProtocol readCommand kindOf withoutLeadingZeros orOneZero pathOf samePath replyWith replyLength replied crc mirrored bits remainder message modulo
 computed = (refl, refl, refl, refl, refl)
-
--- the device ID that an outcome leaves
-abbrev device : Outcome → ℕ
-device o = o .answer .unit .owner .device
 
 -- what takes a claim, and not behind a zero, is shut out
 shut-out : (t : Terminal) → claimed t claim ≡ 5 → claimed t zeroed ≡ 0 → AsWithoutIt t → ⊥
