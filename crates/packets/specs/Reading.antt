@@ -1,4 +1,4 @@
--- What a packet is, as far as its header tells (document 01, 'Reading a packet').
+-- What a packet is, as far as its header tells (document 01, 'Reading a packet'; document 02, 2).
 use mathlib.Core.Bool.{Bool, true, false, cond, _&&_, _||_}
 use mathlib.Core.List.{List, []}
 use Prim.Native.Nat.{ℕ, _+_}

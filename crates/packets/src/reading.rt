@@ -1,4 +1,4 @@
-// What a packet is, as far as its header tells (document 01, 'Reading a packet').
+// What a packet is, as far as its header tells (document 01, 'Reading a packet'; document 02, 2).
 ghost use mathlib.Core.Path.{_≡_};
 ghost use Prim.Native.Nat.{_+_, _≤_};
 ghost use lib.ListN.{length};

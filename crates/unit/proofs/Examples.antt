@@ -323,7 +323,7 @@ field-commands :
 unfolding takePacket bare judged decidedOn decidedByData plannedFor headerStatus openingStatus spanStatus spanSize isAuthorised fieldsStatus namesFields rowOf wantedCount dataStatus replyCount stored dataFor repliedTo changed swapped fieldWritten countedFor usable usableUnit valuesOf linkInformation dividerWritten readPacket readProtocol readCommand kindOf withoutLeadingZeros orOneZero pathOf samePath replyLength replied replyWith crc mirrored bits remainder message modulo
 field-commands = (refl, refl, refl, refl, refl, refl, refl, refl, refl, refl, refl)
 
--- with a zero in front: a plug-and-play command is read without it, by every unit; nothing else is (document 02, 2)
+-- with a zero in front: a plug-and-play packet is read without it, by every unit; nothing else is (document 02, 2)
 abbrev fe : TheUnit
 fe = unit-with 0xFE (owner 0 0 0 0) 0
 

@@ -1,5 +1,5 @@
 // What a packet comes to, judged before anything is touched (document 01, 'Numbers a caller gets', 'Reading a packet'): by the unit less its counters,
-// by what arrived, and by the sizes of what is lent. What memory holds is not looked at.
+// by what arrived, as it is read, and by the sizes of what is lent. What memory holds is not looked at.
 ghost use mathlib.Core.Path.{_≡_};
 ghost use Prim.Native.Nat.{_≤_};
 ghost use lib.ListN.{length};

@@ -5,6 +5,7 @@
 //   c name|bytes                               CRC of bytes, the last of them their CRC
 //   l name|running|count                       CRC that goes on over the first bytes, at most 4,096, of 0 1 2 .. 250 0 1 2 ..
 //   i name|byte                                what an instruction byte says
+//   b name|packet                              a packet as it is to be read
 //   p name|packet                              a packet is read
 //   a name|command                             the path that a command is read to
 //   s name|command|command                     whether the paths of two commands are one

@@ -48,7 +48,7 @@ fn compare<T: Input + Send>(amount: u64, seed: u64, words: &[String]) -> ExitCod
 fn report<T: Input>(seed: u64, tally: &Tally) -> ExitCode {
     let (missed, surprises) = tally.gaps::<T>();
     missed.iter().for_each(|outcome| println!("never reached: {outcome}"));
-    surprises.iter().for_each(|outcome| println!("reached, though document 01 does not have it: {outcome}"));
+    surprises.iter().for_each(|outcome| println!("reached, though the papers do not have it: {outcome}"));
     let (items, rows) = T::NAMES;
     let all = T::reachable().len();
     println!(
