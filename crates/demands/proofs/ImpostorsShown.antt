@@ -44,7 +44,7 @@ use Rattle.demands.specs.Impostors.{refusesAll, doesNothing, repliesZero
 use Rattle.demands.proofs.NamesHold.{byte-in}
 use Rattle.demands.proofs.NumbersHold.{one-two-three}
 use Rattle.demands.proofs.SecondsShown.{ahead-moves-more, ahead-by-ticks, ahead-in-order}
-use Rattle.demands.proofs.ZeroShown.{reads-the-zero-shut-out, reads-the-zero-no-rows, shifts-data-shut-out, shifts-data-no-rows}
+use Rattle.demands.proofs.ZeroShown.{reads-the-zero-shut-out, shifts-data-shut-out, swaps-alone-shut-out, takes-any-zero-shut-out}
 use Rattle.demands.proofs.MeaningHolds.{refused-changes-none}
 use Rattle.unit.proofs.UsableLaws.{packet-with-memory, code-with-memory, ticks-with-memory}
 use Rattle.unit.proofs.CommandLaws.{packet-is, command-fate}
@@ -248,8 +248,13 @@ impostors-shut-out = (
   ahead-moves-more,
   ahead-by-ticks,
   ahead-in-order,
-  reads-the-zero-shut-out,
-  reads-the-zero-no-rows,
-  shifts-data-shut-out,
-  shifts-data-no-rows,
+  reads-the-zero-shut-out .0,
+  reads-the-zero-shut-out .1,
+  shifts-data-shut-out .0,
+  shifts-data-shut-out .1,
+  swaps-alone-shut-out .0,
+  swaps-alone-shut-out .1,
+  takes-any-zero-shut-out .0,
+  takes-any-zero-shut-out .1,
+  takes-any-zero-shut-out .2,
 )

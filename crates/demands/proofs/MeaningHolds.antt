@@ -4,6 +4,7 @@ use mathlib.Core.Bool.{Bool, true, false, cond, not, _&&_, _||_, false≢true}
 use mathlib.Core.Logic.{_⊎_, inl, inr}
 use mathlib.Core.List.{List}
 use Prim.Native.Nat.{ℕ}
+use denote.Ref.{now}
 use borrow.Author.Tests.{eqb-true}
 use Rattle.packets.specs.Instruction.{isRmw, isWrite, isVerified, headerSize}
 use Rattle.packets.specs.Header.{kindIn}
@@ -12,16 +13,18 @@ use Rattle.packets.specs.declared.instruction.Kind.the-variants.{Unused, Read, 
 use Rattle.packets.specs.declared.header.Header.{Header}
 use Rattle.packets.specs.declared.path.Path.{Path}
 use Rattle.unit.specs.Fate.{byteOf, isSuccess, fateStatus}
-use Rattle.unit.specs.Given.{Arrived, asRead, Lent}
+use Rattle.unit.specs.Given.{Arrived, asRead, Lent, sizesOf}
+use Rattle.unit.specs.Judge.{judged, fateIn, lengthIn}
 use Rattle.unit.specs.Decide.{wantedCount, allAtHand, dataCount, dataStatusOf}
 use Rattle.unit.specs.Plan.{unansweredFate}
 use Rattle.unit.specs.Act.{stored}
-use Rattle.unit.specs.Calls.{takePacket}
+use Rattle.unit.specs.Calls.{Outcome, takePacket}
 use Rattle.unit.specs.declared.fate.Status.{Status}
 use Rattle.unit.specs.declared.fate.Fate.{Fate}
 use Rattle.unit.specs.declared.fate.Fate.the-variants.{NotObeyed, Obeyed, Replied}
 use Rattle.unit.specs.declared.fate.Told.{Told}
 use Rattle.unit.specs.declared.fate.Told.the-variants.{Byte}
+use Rattle.unit.specs.declared.judging.Judgement.{Judgement}
 use Rattle.unit.specs.declared.unit.Unit.{Unit as TheUnit}
 use Rattle.unit.proofs.DecideLaws.{writes, write-bit-is, data-refuses}
 use Rattle.unit.proofs.PlanLaws.{memoryActionIn}
@@ -32,7 +35,7 @@ use Rattle.packets.proofs.ReadingLaws.{one-command}
 use Rattle.demands.proofs.BoundsHold.{storing-bit}
 use Rattle.demands.specs.Terminal.{ours, readOf, IsCommand, pathIn}
 use Rattle.demands.specs.Refusals.{writtenTo}
-use Rattle.demands.specs.Meaning.{ByteByByte, PacketPromise, TimeCodePromise, TicksPromise, JudgePromise, AsJudged, StoresWith, KeepsOrStores, OnlyStoresChange, RefusedChangesNone}
+use Rattle.demands.specs.Meaning.{ByteByByte, PacketPromise, TimeCodePromise, TicksPromise, JudgePromise, AsJudged, JudgeForetells, StoresWith, KeepsOrStores, OnlyStoresChange, RefusedChangesNone}
 
 pub byte-by-byte : ByteByByte ours
 byte-by-byte = (λ u p lent. refl, λ u byte. refl, λ u count. refl)
@@ -51,6 +54,17 @@ judge-promise κs unit bytes end link sizes judgement exit p = p
 
 pub told-as-judged : AsJudged ours
 told-as-judged u p lent = as-judged u p lent
+
+pub judge-foretells : JudgeForetells
+judge-foretells κs unit bytes end link sizes judgement exit κs′ again memory reply answer unit′ again′ end′ link′ memory′ reply′ judges takes same lent =
+    let p : Arrived = record { packet = now again; end = end; link = link } in
+    let given : Lent = record { memory = now memory; reply = now reply } in
+    let j : judgement ≡ judged unit (asRead p) (sizesOf given) =
+    judges ∙ ap (λ (b : List ℕ). judged unit (asRead (record { packet = b; end = end; link = link })) sizes) same ∙ ap (judged unit (asRead p)) lent in
+    let told = as-judged unit p given in (
+      ap (λ (o : Outcome). o .answer .fate) takes ∙ told .0 ∙ sym (ap (λ (k : Judgement). fateIn (k .ruling)) j),
+      ap (λ (o : Outcome). o .answer .length) takes ∙ told .1 ∙ sym (ap (λ (k : Judgement). lengthIn (k .ruling)) j),
+    )
 
 -- ---- refused, and memory unchanged
 

@@ -1,27 +1,32 @@
 -- The zero in front of plug-and-play packets: taken off where it is, once, and nothing else is.
 use mathlib.Core.Path.{_≡_, refl, sym, _∙_, ap}
 use mathlib.Core.Bool.{Bool, true, false, cond, _&&_, _||_}
-use mathlib.Core.Logic.{_≢_}
+use mathlib.Core.Logic.{_⊎_, inl, inr, _≢_}
 use mathlib.Core.List.{List, _∷_}
-use Prim.Native.Nat.{ℕ}
+use Prim.Native.Nat.{ℕ, _≤_}
+use native.Mathlib.Nat.{lt-of-not-le}
+use native.Mathlib.Decide.{decLe}
 use native.Mathlib.Omega.{arith}
 use lib.Dec.{eqb}
 use lib.ListN.{length, getD}
 use Rattle.octets.specs.Crc.{crc}
-use Rattle.packets.specs.Reading.{isEop, bare, refused, timePacket, readPacket}
+use Rattle.packets.specs.Reading.{isEop, bare, refused, timePacket, readProtocol, readPacket}
 use Rattle.packets.specs.Time.{timeAt, readTime}
+use Rattle.packets.specs.declared.path.Path.{Path}
 use Rattle.packets.specs.declared.reading.End.{End}
 use Rattle.packets.specs.declared.reading.Refusal.the-variants.{UnknownProtocol}
+use Rattle.packets.specs.declared.time.TimeReading.{TimeReading}
 use Rattle.packets.specs.declared.time.TimeReading.the-variants.{ThrownAway, Taken}
-use Rattle.packets.proofs.BareLaws.{bare-lacks, bare-zero, bare-other, bare-once, bare-rmap}
-use Rattle.packets.proofs.ReadingLaws.{protocol-time, protocol-other-number, packet-protocol}
+use Rattle.packets.proofs.BareLaws.{bare-lacks, bare-zero, bare-other, bare-once}
+use Rattle.packets.proofs.ReadingLaws.{protocol-extended, protocol-time, protocol-other-number, protocol-below, protocol-above, packet-protocol}
 use Rattle.unit.specs.Given.{Arrived, Lent}
-use Rattle.unit.specs.Judge.{judged}
-use Rattle.unit.specs.Calls.{takeRead, takePacket}
+use Rattle.unit.specs.Fate.{fateNumber}
+use Rattle.unit.specs.Judge.{timeRuling, judged}
+use Rattle.unit.specs.Calls.{doneBy, takeRead, takePacket}
 use Rattle.unit.specs.declared.unit.Unit.{Unit as TheUnit}
+use Rattle.unit.proofs.UsableLaws.{number-fits, alone}
 use Rattle.demands.specs.Terminal.{ours}
-use Rattle.demands.specs.Lists.{NoneWithZero}
-use Rattle.demands.specs.Zero.{withBytes, AsWithoutIt, OthersAsBefore, TakenOnce, WasRefused}
+use Rattle.demands.specs.Zero.{withBytes, ReadSo, AsWithoutIt, OthersAsBefore, BySecondByte, TakenOnce, WasRefused, NoneWithZero}
 
 -- two packets of one end and link that are read as the same bytes have one outcome
 same-bytes : (u : TheUnit) (p : Arrived) (lent : Lent) {a b : List ℕ} → a ≡ b → takeRead u (withBytes p a) lent ≡ takeRead u (withBytes p b) lent
@@ -40,8 +45,49 @@ pub taken-once : TakenOnce ours
 unfolding takePacket
 taken-once u p lent = same-bytes u p lent (bare-once (p .packet))
 
+pub read-so : ReadSo
+read-so p = (
+  λ rest begins. ap (withBytes p) (ap bare begins ∙ bare-zero rest),
+  λ otherwise. ap (withBytes p) (bare-other (p .packet) otherwise),
+)
+
 pub none-with-zero : NoneWithZero
-none-with-zero c rmap = bare-rmap (c .arrived .packet) rmap
+none-with-zero c rest rmap begins = omega (arith, sym rmap ∙ ap (λ (b : List ℕ). getD b 1 0) begins)
+
+-- ---- by the second byte
+
+-- what is none of 00, 01, 03 and the time number is unknown
+unknown : (p : List ℕ) (number : ℕ) → 2 ≤ length p → getD p 1 0 ≢ 0x00 → getD p 1 0 ≢ 0x01 → getD p 1 0 ≢ 0x03 → getD p 1 0 ≢ number
+    → readPacket p number ≡ refused UnknownProtocol
+unknown p number two x y z other = sym (packet-protocol p number two) ∙ go (decLe 0xF0 (getD p 1 0)) (decLe (getD p 1 0) 0xFE)
+  where
+    go : Dec (0xF0 ≤ getD p 1 0) → Dec (getD p 1 0 ≤ 0xFE) → readProtocol (getD p 1 0) p number ≡ refused UnknownProtocol
+    go (no h) k = sym (protocol-below (getD p 1 0) p number x y z (lt-of-not-le h))
+    go (yes h) (no k) = sym (protocol-above (getD p 1 0) p number x y z (lt-of-not-le k))
+    go (yes h) (yes k) = sym (protocol-other-number (getD p 1 0) p number h k other)
+
+-- a time packet is thrown away or taken
+time-either : (r : TimeReading) (path : Path) (u : TheUnit) (bytes : List ℕ) (link : ℕ) (lent : Lent)
+    → (fateNumber (doneBy (timeRuling r) path u bytes link lent .answer .fate) ≡ 16) ⊎ (fateNumber (doneBy (timeRuling r) path u bytes link lent .answer .fate) ≡ 19)
+time-either ThrownAway path u bytes link lent = inl refl
+time-either (Taken t) path u bytes link lent = inr refl
+
+pub by-second-byte : BySecondByte ours
+unfolding judged
+by-second-byte u p lent otherwise two works there =
+    let as-it-is = others-as-before u p lent otherwise in
+    let read = packet-protocol (p .packet) (u .number) two in (
+      λ e. rw (as-it-is, works, there, ← read, ← protocol-extended (getD (p .packet) 1 0) (p .packet) (u .number) e),
+      λ e. let fits = number-fits u (alone u (length (lent .memory)) works) in
+          rw (
+            as-it-is,
+            works,
+            there,
+            ← read,
+            ← protocol-time (getD (p .packet) 1 0) (p .packet) (u .number) (omega (arith, fits .0, e)) (omega (arith, fits .1, e)) e,
+          ) (time-either (readTime (p .packet) (p .end) (u .logical) (u .number)) (timePacket .path) u (p .packet) (p .link) lent),
+      λ x y z other. rw (as-it-is, works, there, unknown (p .packet) (u .number) two x y z other),
+    )
 
 -- ---- what such a packet was before
 

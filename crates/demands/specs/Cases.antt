@@ -101,8 +101,9 @@ ZeroCases =
     × Gets (0x00 ∷ 0xFE ∷ 0x03 ∷ 0x0C ∷ []) 14
     -- two zeros
     × Gets (0x00 ∷ 0x00 ∷ 0xFE ∷ 0x03 ∷ []) 13
-    -- what else begins with 00 goes by its second byte, RMAP too: a time number, or unknown
+    -- one byte
     × Gets (0x00 ∷ []) 11
+    -- what else begins with 00 goes by its second byte, RMAP too: a time number, or unknown
     × GetsAt 0xFE (0x00 ∷ 0xFE ∷ []) 16
     × GetsAt 0xFE (0x00 ∷ 0xFE ∷ 0x01 ∷ []) 16
     × GetsAt 0xF0 (0x00 ∷ 0xFE ∷ []) 12

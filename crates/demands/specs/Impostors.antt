@@ -4,7 +4,7 @@ use mathlib.Core.Bool.{true, cond, _&&_}
 use mathlib.Core.List.{List, []}
 use Prim.Native.Nat.{ℕ, _+_, _%_, _^_}
 use lib.Dec.{eqb}
-use lib.ListN.{length, getD, replicate}
+use lib.ListN.{length, getD, drop, replicate}
 use Rattle.packets.specs.Reply.{replyLength, replied}
 use Rattle.packets.specs.declared.header.Header.{Header}
 use Rattle.packets.specs.declared.path.Path.{Path}
@@ -32,7 +32,7 @@ use Rattle.demands.specs.Meaning.{ByteByByte, OnlyStoresChange, RefusedC
 use Rattle.demands.specs.Lists.{Merges}
 use Rattle.demands.specs.Counts.{CountersAreHistory}
 use Rattle.demands.specs.Seconds.{WrapMovesHalf, OneSecond, OneSecondInOrder}
-use Rattle.demands.specs.Zero.{AsWithoutIt}
+use Rattle.demands.specs.Zero.{withBytes, AsWithoutIt, OthersAsBefore, BySecondByte}
 use Rattle.demands.specs.Demands.{Demand1}
 
 -- A terminal that does something else with packets. Its small calls are ours.
@@ -150,6 +150,14 @@ shiftsData = faking (λ u p lent.
     cond (usable u (length (lent .memory)) && isLink u (p .link))
     (done (judgedAs (readOf u p) u p (sizesOf lent)) u (p .packet) (p .link) lent) (takePacket u p lent))
 
+-- It takes the zero off swaps alone.
+abbrev pub swapsAlone : Terminal
+swapsAlone = faking (λ u p lent. cond (eqb (getD (p .packet) 3 0) 0x5C) (takePacket u p lent) (takeRead u p lent))
+
+-- It takes a zero off whatever begins with one, RMAP too.
+abbrev pub takesAnyZero : Terminal
+takesAnyZero = faking (λ u p lent. takeRead u (withBytes p (cond (eqb (getD (p .packet) 0 1) 0x00) (drop 1 (p .packet)) (p .packet))) lent)
+
 -- ---- which demand shuts out which
 
 abbrev pub ShutsOut : (Terminal → Type 0) → Terminal → Type 0
@@ -158,8 +166,8 @@ ShutsOut Demand t = Demand t → ⊥
 -- Demand 2, which names status, reply and memory, for any unit and memory, shuts out the first four; demand 3, of whole lists, the fourth too; the
 -- history's counts the fifth. What only claims to reply is shut out by the rows of demand 1; what gives up, by the history of demand 1, in which memory of
 -- another length may be lent; what clears memory, by the part of demand 2 that says what changes it. What gets a second ahead is shut out by what is said of a wrap,
--- and of two, whether the Time-Codes between them are lost or come. What does not take the zero off, or not everywhere, is shut out by what is said of it, and by
--- demand 1 as well.
+-- and of two, whether the Time-Codes between them are lost or come. What does not take the zero off, or not everywhere, is shut out by what is said of it, what
+-- takes off too much by what is said of other packets, and all four by demand 1 as well.
 abbrev pub ImpostorsShutOut : Type 0
 ImpostorsShutOut =
     ShutsOut ByteByByte refusesAll
@@ -178,6 +186,11 @@ ImpostorsShutOut =
     × ShutsOut Demand1 readsTheZero
     × ShutsOut AsWithoutIt shiftsData
     × ShutsOut Demand1 shiftsData
+    × ShutsOut AsWithoutIt swapsAlone
+    × ShutsOut Demand1 swapsAlone
+    × ShutsOut OthersAsBefore takesAnyZero
+    × ShutsOut BySecondByte takesAnyZero
+    × ShutsOut Demand1 takesAnyZero
 
 -- Demand 3 alone would not do: one that does nothing does it in any order. It is asked beside demand 2.
 abbrev pub ThreeAloneLetsBy : Type 0

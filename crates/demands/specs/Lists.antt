@@ -7,7 +7,6 @@ use lib.Dec.{leb, ltb}
 use lib.ListN.{getD}
 use Rattle.packets.specs.Instruction.{isWrite, isRmw}
 use Rattle.packets.specs.Header.{kindIn}
-use Rattle.packets.specs.Reading.{bare}
 use Rattle.packets.specs.declared.header.Header.{Header}
 use Rattle.packets.specs.declared.reading.Reading.{Reading}
 use Rattle.packets.specs.declared.reading.Reading.the-variants.{Refused, Time, Command}
@@ -43,12 +42,9 @@ pub record Sent : Type 0 where
   pub arrived : Arrived
   pub buffer : List ℕ
 
--- RMAP: the protocol is 01, and that is the second byte as it arrived. So none of these packets begins with a zero that is not read: each is read as it is.
+-- RMAP: the protocol is 01, and that is the second byte as it arrived.
 abbrev pub Rmap : Sent → Type 0
 Rmap c = getD (c .arrived .packet) 1 0 ≡ 0x01
-
-abbrev pub NoneWithZero : Type 0
-NoneWithZero = (c : Sent) → Rmap c → bare (c .arrived .packet) ≡ c .arrived .packet
 
 -- A unit, and the memory that is lent to it from command to command.
 pub record State : Type 0 where

@@ -6,7 +6,7 @@ use mathlib.Core.List.{List, [], _∷_}
 use Prim.Native.Nat.{ℕ, _<_}
 use denote.Ref.{now}
 use lib.Dec.{eqb}
-use lib.ListN.{getD}
+use lib.ListN.{length, getD}
 use Rattle.octets.specs.Numbers.{Digits}
 use Rattle.packets.specs.Instruction.{isRmw, isWrite, isVerified}
 use Rattle.packets.specs.Header.{kindIn}
@@ -73,6 +73,16 @@ AsJudged t =
     (u : TheUnit) (p : Arrived) (lent : Lent)
     → (t .packet u p lent .answer .fate ≡ fateIn (judged u (asRead p) (sizesOf lent) .ruling))
     × (t .packet u p lent .answer .length ≡ lengthIn (judged u (asRead p) (sizesOf lent) .ruling))
+
+-- So of the code: what `judge` says of a packet, for memory and a reply buffer of their sizes, is what `take_packet` does with it. No word of a definition stands between the two.
+abbrev pub JudgeForetells : Type 0
+JudgeForetells =
+    (κs : _) (unit : _) (bytes : _) (end : _) (link : _) (sizes : _) (judgement : _) (exit : _)
+    (κs′ : _) (again : _) (memory : _) (reply : _) (answer : _) (unit′ : _) (again′ : _) (end′ : _) (link′ : _) (memory′ : _) (reply′ : _)
+    → promise-of-judge κs (unit, (bytes, (end, (link, (sizes, tt))))) judgement exit
+    → promise-of-take_packet κs′ (unit, (again, (end, (link, (memory, (reply, tt)))))) answer (unit′, (again′, (end′, (link′, (memory′, (reply′, tt))))))
+    → now bytes ≡ now again → sizes ≡ record { memory = length (now memory); reply = length (now reply) }
+    → (answer .fate ≡ fateIn (judgement .ruling)) × (answer .length ≡ lengthIn (judgement .ruling))
 
 -- What follows are consequences of the equation that the customer named.
 

@@ -1,11 +1,11 @@
--- A zero in front of plug-and-play packets (document 02, 2; 000, 5.2.3.2c). Elsewhere a statement speaks of the packet as it is read (`readOf`, `asRead`); here is what
--- becomes of the packet as it arrives.
+-- A zero in front of plug-and-play packets (document 02, 2; 000, 5.2.3.2c). Elsewhere a statement speaks of the packet as it is read (`asRead`); here is what that is,
+-- and what becomes of the packet as it arrives.
 use mathlib.Core.Path.{_≡_}
 use mathlib.Core.Bool.{true}
-use mathlib.Core.Logic.{_≢_}
+use mathlib.Core.Logic.{_⊎_, _≢_}
 use mathlib.Core.List.{List, _∷_}
-use Prim.Native.Nat.{ℕ}
-use lib.ListN.{length}
+use Prim.Native.Nat.{ℕ, _≤_}
+use lib.ListN.{length, getD}
 use Rattle.unit.specs.Fate.{fateNumber}
 use Rattle.unit.specs.Usable.{usable}
 use Rattle.unit.specs.Given.{Arrived, asRead, Lent}
@@ -13,27 +13,46 @@ use Rattle.unit.specs.Judge.{isLink}
 use Rattle.unit.specs.Calls.{takeRead}
 use Rattle.unit.specs.declared.unit.Unit.{Unit as TheUnit}
 use Rattle.demands.specs.Terminal.{Terminal}
+use Rattle.demands.specs.Lists.{Sent, Rmap}
 
--- A packet begins 00 FE 03, and the rest stands behind that.
+-- A packet begins 00 FE 03, and the rest stands behind that; or it does not begin so.
 abbrev pub BeginsSo : Arrived → List ℕ → Type 0
 BeginsSo p rest = p .packet ≡ 0x00 ∷ 0xFE ∷ 0x03 ∷ rest
+
+abbrev pub BeginsOtherwise : Arrived → Type 0
+BeginsOtherwise p = (rest : List ℕ) → BeginsSo p rest → ⊥
 
 -- Other bytes, with the same end, on the same link.
 abbrev pub withBytes : Arrived → List ℕ → Arrived
 withBytes p bytes = record { packet = bytes; end = p .end; link = p .link }
 
--- It has the outcome that it would have if its first byte weren't there, in every part: unit, fate with its status, length of the reply, memory and reply buffer. So it is with every
--- unit, whatever its time number.
+-- What is read is what arrived, less the first byte of a packet that begins so. This is what `asRead` means wherever it stands.
+abbrev pub ReadSo : Type 0
+ReadSo =
+    (p : Arrived) → ((rest : List ℕ) → BeginsSo p rest → asRead p ≡ withBytes p (0xFE ∷ 0x03 ∷ rest)) × (BeginsOtherwise p → asRead p ≡ p)
+
+-- Such a packet has the outcome that it would have if its first byte weren't there, in every part: unit, fate with its status, length of the reply, memory and reply buffer. So it
+-- is with every unit, whatever its time number.
 abbrev pub AsWithoutIt : Terminal → Type 0
 AsWithoutIt t =
     (u : TheUnit) (p : Arrived) (lent : Lent) (rest : List ℕ) → BeginsSo p rest → t .packet u p lent ≡ t .packet u (withBytes p (0xFE ∷ 0x03 ∷ rest)) lent
 
 -- Every other packet, also one that begins with 00, has in every part the outcome that it had before.
 abbrev pub OthersAsBefore : Terminal → Type 0
-OthersAsBefore t =
-    (u : TheUnit) (p : Arrived) (lent : Lent) → ((rest : List ℕ) → BeginsSo p rest → ⊥) → t .packet u p lent ≡ takeRead u p lent
+OthersAsBefore t = (u : TheUnit) (p : Arrived) (lent : Lent) → BeginsOtherwise p → t .packet u p lent ≡ takeRead u p lent
 
--- It is taken off once: done again, that changes nothing.
+-- In numbers: it goes by its second byte as it arrived. 00 is 13, the time number 16 or 19, and what is none of 00, 01, 03 and the time number is 12. So RMAP behind a zero
+-- is no command.
+abbrev pub BySecondByte : Terminal → Type 0
+BySecondByte t =
+    (u : TheUnit) (p : Arrived) (lent : Lent) → BeginsOtherwise p → 2 ≤ length (p .packet) → usable u (length (lent .memory)) ≡ true → isLink u (p .link) ≡ true
+    → (getD (p .packet) 1 0 ≡ 0x00 → fateNumber (t .packet u p lent .answer .fate) ≡ 13)
+    × (getD (p .packet) 1 0 ≡ u .number
+    → (fateNumber (t .packet u p lent .answer .fate) ≡ 16) ⊎ (fateNumber (t .packet u p lent .answer .fate) ≡ 19))
+    × (getD (p .packet) 1 0 ≢ 0x00 → getD (p .packet) 1 0 ≢ 0x01 → getD (p .packet) 1 0 ≢ 0x03 → getD (p .packet) 1 0 ≢ u .number
+    → fateNumber (t .packet u p lent .answer .fate) ≡ 12)
+
+-- Taking it off again changes nothing.
 abbrev pub TakenOnce : Terminal → Type 0
 TakenOnce t = (u : TheUnit) (p : Arrived) (lent : Lent) → t .packet u (asRead p) lent ≡ t .packet u p lent
 
@@ -42,3 +61,7 @@ abbrev pub WasRefused : Type 0
 WasRefused =
     (u : TheUnit) (p : Arrived) (lent : Lent) (rest : List ℕ) → BeginsSo p rest → usable u (length (lent .memory)) ≡ true → isLink u (p .link) ≡ true
     → (u .number ≡ 0xFE → fateNumber (takeRead u p lent .answer .fate) ≡ 16) × (u .number ≢ 0xFE → fateNumber (takeRead u p lent .answer .fate) ≡ 12)
+
+-- Demand 3 holds none of these packets: the second byte of its own is 01.
+abbrev pub NoneWithZero : Type 0
+NoneWithZero = (c : Sent) (rest : List ℕ) → Rmap c → BeginsSo (c .arrived) rest → ⊥

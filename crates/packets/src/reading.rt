@@ -81,7 +81,7 @@ pub fn bare(packet: &[u8]) -> &[u8]
     packet
 }
 
-// Reads a packet by its second byte, the protocol. `number` is the time number of the unit.
+// Reads the bytes of a packet as they are, by the second, the protocol. `number` is the time number of the unit.
 pub fn read_packet(packet: &[u8], number: u8) -> Packet
     ensures { λ r. ⌜ r ≡ readPacket (now (packet .entry)) number ⌝ }
 {

@@ -80,6 +80,9 @@ clock-works u e = let w = works u e in (w .5, w .6, w .7)
 pub et-fits : (u : TheUnit) → usableUnit u ≡ true → u .clock .elapsed .value < 2 ^ 56
 et-fits u e = ltb-true (u .clock .elapsed .value) (2 ^ 56) (works u e .5)
 
+pub number-fits : (u : TheUnit) → usableUnit u ≡ true → (0xF0 ≤ u .number) × (u .number ≤ 0xFE)
+number-fits u e = let w = works u e in (leb-true 0xF0 (u .number) (w .1), leb-true (u .number) 0xFE (w .2))
+
 owner-works : (u : TheUnit) → usableUnit u ≡ true → OwnerWorks (u .owner)
 owner-works u e = let w = works u e in (w .8, w .9)
 
