@@ -13,7 +13,7 @@ use Rattle.demands.proofs.CountsHold.{counters-are-history, low-count-n
 use Rattle.demands.proofs.NamesHold.{rows-kept, missing-refused, missing-is-f1, obeyed-in-window}
 use Rattle.demands.proofs.SecondsHold.{others-leave-time, wrap-moves-half, one-is-nearest, ticks-are-seconds, one-second, one-second-in-order}
 use Rattle.demands.proofs.SecondsShown.{some-turn}
-use Rattle.demands.proofs.ZeroHolds.{read-so, as-without-it, others-as-before, by-second-byte, taken-once, was-refused, none-with-zero}
+use Rattle.demands.proofs.ZeroHolds.{read-so, as-without-it, others-as-before, by-second-byte, only-addressed, taken-once, was-refused, none-with-zero}
 
 pub demand-1 : Demand1 ours
 demand-1 = (row-by-row, one-two-three, small-rows, listed, no-row-empty, never-strays, set-up-stays, stays-usable, comes-back)
@@ -34,4 +34,4 @@ pub seconds-kept : SecondsKept ours
 seconds-kept = (others-leave-time, wrap-moves-half, one-is-nearest, ticks-are-seconds, one-second, one-second-in-order, some-turn)
 
 pub zero-ignored : ZeroIgnored ours
-zero-ignored = (read-so, as-without-it, others-as-before, by-second-byte, taken-once, was-refused, none-with-zero)
+zero-ignored = (read-so, as-without-it, others-as-before, by-second-byte, only-addressed, taken-once, was-refused, none-with-zero)

@@ -257,4 +257,5 @@ impostors-shut-out = (
   takes-any-zero-shut-out .0,
   takes-any-zero-shut-out .1,
   takes-any-zero-shut-out .2,
+  takes-any-zero-shut-out .3,
 )

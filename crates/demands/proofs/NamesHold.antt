@@ -86,13 +86,13 @@ abbrev pub byte-in : Told → ℕ
 byte-in t = elim t [ Nothing ↦ 1 | Byte b ↦ b ]
 
 -- what a header refused, or what has no status, has not status 0
-refused-other : (s : Status) → isSuccess s ≡ false → fateStatus (Replied s) ≢ Byte 0
+pub refused-other : (s : Status) → isSuccess s ≡ false → fateStatus (Replied s) ≢ Byte 0
 refused-other s e z = false≢true (sym e ∙ eq-eqb (byteOf s) 0 (ap byte-in z))
 
-silent-other : (s : Status) → isSuccess s ≡ false → fateStatus (unansweredFate s) ≢ Byte 0
+pub silent-other : (s : Status) → isSuccess s ≡ false → fateStatus (unansweredFate s) ≢ Byte 0
 silent-other s e = rw e (refused-other s e)
 
-no-status : Nothing ≢ Byte 0
+pub no-status : Nothing ≢ Byte 0
 no-status z = omega (arith, ap byte-in z)
 
 -- ---- memory

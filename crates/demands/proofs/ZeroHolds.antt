@@ -12,21 +12,29 @@ use lib.ListN.{length, getD}
 use Rattle.octets.specs.Crc.{crc}
 use Rattle.packets.specs.Reading.{isEop, bare, refused, timePacket, readProtocol, readPacket}
 use Rattle.packets.specs.Time.{timeAt, readTime}
+use Rattle.packets.specs.declared.header.Header.{Header}
 use Rattle.packets.specs.declared.path.Path.{Path}
 use Rattle.packets.specs.declared.reading.End.{End}
 use Rattle.packets.specs.declared.reading.Refusal.the-variants.{UnknownProtocol}
 use Rattle.packets.specs.declared.time.TimeReading.{TimeReading}
 use Rattle.packets.specs.declared.time.TimeReading.the-variants.{ThrownAway, Taken}
 use Rattle.packets.proofs.BareLaws.{bare-lacks, bare-zero, bare-other, bare-once}
-use Rattle.packets.proofs.ReadingLaws.{protocol-extended, protocol-time, protocol-other-number, protocol-below, protocol-above, packet-protocol}
-use Rattle.unit.specs.Given.{Arrived, Lent}
-use Rattle.unit.specs.Fate.{fateNumber}
+use Rattle.packets.proofs.TimeLaws.{taken-addressed}
+use Rattle.packets.proofs.ReadingLaws.{target-read, protocol-extended, protocol-time, protocol-other-number, protocol-below, protocol-above, packet-protocol}
+use Rattle.unit.specs.Given.{Arrived, asRead, Lent}
+use Rattle.unit.specs.Fate.{isSuccess, fateNumber, fateStatus}
+use Rattle.unit.specs.Act.{withCounters}
+use Rattle.unit.specs.Decide.{headerStatus}
 use Rattle.unit.specs.Judge.{timeRuling, judged}
-use Rattle.unit.specs.Calls.{doneBy, takeRead, takePacket}
+use Rattle.unit.specs.Calls.{Outcome, doneBy, takeRead, takePacket}
+use Rattle.unit.specs.declared.fate.Told.the-variants.{Byte}
 use Rattle.unit.specs.declared.unit.Unit.{Unit as TheUnit}
+use Rattle.unit.proofs.DecideLaws.{addressed}
+use Rattle.unit.proofs.CommandLaws.{packets-are, command-is}
 use Rattle.unit.proofs.UsableLaws.{number-fits, alone}
-use Rattle.demands.specs.Terminal.{ours}
-use Rattle.demands.specs.Zero.{withBytes, ReadSo, AsWithoutIt, OthersAsBefore, BySecondByte, TakenOnce, WasRefused, NoneWithZero}
+use Rattle.demands.proofs.NamesHold.{refused-other, silent-other, no-status}
+use Rattle.demands.specs.Terminal.{ours, IsCommand, pathIn}
+use Rattle.demands.specs.Zero.{withBytes, ReadSo, AsWithoutIt, OthersAsBefore, BySecondByte, OnlyAddressed, TakenOnce, WasRefused, NoneWithZero}
 
 -- two packets of one end and link that are read as the same bytes have one outcome
 same-bytes : (u : TheUnit) (p : Arrived) (lent : Lent) {a b : List ℕ} → a ≡ b → takeRead u (withBytes p a) lent ≡ takeRead u (withBytes p b) lent
@@ -88,6 +96,30 @@ by-second-byte u p lent otherwise two works there =
           ) (time-either (readTime (p .packet) (p .end) (u .logical) (u .number)) (timePacket .path) u (p .packet) (p .link) lent),
       λ x y z other. rw (as-it-is, works, there, unknown (p .packet) (u .number) two x y z other),
     )
+
+-- ---- by the first byte
+
+-- what is counted, and no more
+abbrev DoesNothing : TheUnit → Lent → Outcome → Type 0
+DoesNothing u lent o =
+    (o .memory ≡ lent .memory) × (o .answer .unit ≡ withCounters u (o .answer .unit .counters)) × (fateStatus (o .answer .fate) ≢ Byte 0)
+
+pub only-addressed : OnlyAddressed ours
+only-addressed u p lent otherwise unit all =
+    packets-are u p lent (lent .memory) refl (λ o o′. DoesNothing u lent o) (λ e. (refl, refl, no-status)) (λ e f. (refl, refl, no-status)) (λ e f why g. (refl, refl, no-status))
+    (λ e f g w. (refl, refl, no-status))
+    (λ e f g t w. absurd (taken-addressed (asRead p .packet) (p .end) (u .logical) (u .number) t w (λ e. unit (sym first ∙ e)) (λ e. all (sym first ∙ e))))
+    (λ e f h g. command-is u h (pathIn u p) (asRead p) lent (DoesNothing u lent) (refl, refl, no-status)
+    (λ s. (λ w. (refl, refl, refused-other (headerStatus u h (pathIn u p) (p .link)) s), λ w. (refl, refl, silent-other (headerStatus u h (pathIn u p) (p .link)) s)))
+    (λ q a. absurd (elsewhere h g a)) (λ q a. absurd (elsewhere h g a)))
+  where
+    first : getD (asRead p .packet) 0 0 ≡ getD (p .packet) 0 0
+    first = ap (λ (b : List ℕ). getD b 0 0) (bare-other (p .packet) otherwise)
+
+    elsewhere : (h : Header) → IsCommand u p h → isSuccess (headerStatus u h (pathIn u p) (p .link)) ≡ true → ⊥
+    elsewhere h is a =
+        let target = target-read (asRead p .packet) (u .number) h is ∙ first in
+        addressed u h (pathIn u p) (p .link) a (λ e. unit (sym target ∙ e)) (λ e. all (sym target ∙ e))
 
 -- ---- what such a packet was before
 

@@ -24,7 +24,7 @@ use Rattle.unit.specs.Owner.{swapped}
 use Rattle.unit.specs.Calls.{Outcome, takeRead, takePacket}
 use Rattle.demands.specs.Terminal.{Terminal, ours}
 use Rattle.demands.specs.Demands.{Demand1}
-use Rattle.demands.specs.Zero.{BeginsOtherwise, AsWithoutIt, OthersAsBefore, BySecondByte}
+use Rattle.demands.specs.Zero.{BeginsOtherwise, AsWithoutIt, OthersAsBefore, BySecondByte, OnlyAddressed}
 use Rattle.demands.specs.Impostors.{readsTheZero, shiftsData, swapsAlone, takesAnyZero}
 use Rattle.demands.proofs.Witnesses.{unit, memory, buffer, arrived, lent, tested, write-0}
 use Rattle.demands.proofs.OnlyOurs.{only-ours}
@@ -112,12 +112,15 @@ swaps-alone-shut-out = (
 otherwise : BeginsOtherwise (arrived write 1)
 otherwise rest e = omega (arith, ap (λ (b : List ℕ). getD b 2 0) e)
 
-pub takes-any-zero-shut-out : (OthersAsBefore takesAnyZero → ⊥) × (BySecondByte takesAnyZero → ⊥) × (Demand1 takesAnyZero → ⊥)
+pub takes-any-zero-shut-out : (OthersAsBefore takesAnyZero → ⊥) × (BySecondByte takesAnyZero → ⊥) × (OnlyAddressed takesAnyZero → ⊥) × (Demand1 takesAnyZero → ⊥)
 takes-any-zero-shut-out = (
   λ meets. omega (arith, ap byte (meets (unit 0) (arrived write 1) (lent memory buffer) otherwise), computed .9, computed .10),
   λ meets.
       let twelve = meets (unit 0) (arrived write 1) (lent memory buffer) otherwise (omega arith) (computed .12) refl .2
       (λ e. omega (arith, e)) (λ e. omega (arith, e)) (λ e. omega (arith, e)) (λ e. omega (arith, e)) in
       omega (arith, twelve, computed .11),
+  λ meets.
+      let kept = meets (unit 0) (arrived write 1) (lent memory buffer) otherwise (λ e. omega (arith, e)) (λ e. omega (arith, e)) .0 in
+      omega (arith, ap (λ (m : List ℕ). getD m 0 0) kept, computed .10),
   not-ours takesAnyZero write byte (tested write refl) (computed .10) (computed .8) (λ e. omega (arith, e)),
 )

@@ -103,7 +103,7 @@ ZeroCases =
     × Gets (0x00 ∷ 0x00 ∷ 0xFE ∷ 0x03 ∷ []) 13
     -- one byte
     × Gets (0x00 ∷ []) 11
-    -- what else begins with 00 goes by its second byte, RMAP too: a time number, or unknown
+    -- of what else begins with 00: by its second byte, RMAP too, a time number, or unknown
     × GetsAt 0xFE (0x00 ∷ 0xFE ∷ []) 16
     × GetsAt 0xFE (0x00 ∷ 0xFE ∷ 0x01 ∷ []) 16
     × GetsAt 0xF0 (0x00 ∷ 0xFE ∷ []) 12

@@ -9,7 +9,7 @@ use Rattle.demands.specs.Lists.{Merges}
 use Rattle.demands.specs.Counts.{CountersAreHistory, LowCountNothing}
 use Rattle.demands.specs.Names.{RowsKept, MissingRefused, MissingIsF1, ObeyedInWindow}
 use Rattle.demands.specs.Seconds.{OthersLeaveTime, WrapMovesHalf, OneIsNearest, TicksAreSeconds, OneSecond, OneSecondInOrder, SomeTurn}
-use Rattle.demands.specs.Zero.{ReadSo, AsWithoutIt, OthersAsBefore, BySecondByte, TakenOnce, WasRefused, NoneWithZero}
+use Rattle.demands.specs.Zero.{ReadSo, AsWithoutIt, OthersAsBefore, BySecondByte, OnlyAddressed, TakenOnce, WasRefused, NoneWithZero}
 
 -- 1. Any packet, any end marker, any lent memory: the terminal answers, never strays, always comes back; every refusal has its number, its
 -- reply and a fixed effect on memory, unit and reply buffer. (It checks for itself: `OctetsAskNothing`, `PacketsAskNothing`, `UnitAsksNothing`, in Outcomes.)
@@ -36,4 +36,4 @@ abbrev pub SecondsKept : Terminal → Type 0
 SecondsKept t = OthersLeaveTime t × WrapMovesHalf t × OneIsNearest × TicksAreSeconds t × OneSecond t × OneSecondInOrder t × SomeTurn t
 
 abbrev pub ZeroIgnored : Terminal → Type 0
-ZeroIgnored t = ReadSo × AsWithoutIt t × OthersAsBefore t × BySecondByte t × TakenOnce t × WasRefused × NoneWithZero
+ZeroIgnored t = ReadSo × AsWithoutIt t × OthersAsBefore t × BySecondByte t × OnlyAddressed t × TakenOnce t × WasRefused × NoneWithZero

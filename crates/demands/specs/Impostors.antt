@@ -32,7 +32,7 @@ use Rattle.demands.specs.Meaning.{ByteByByte, OnlyStoresChange, RefusedC
 use Rattle.demands.specs.Lists.{Merges}
 use Rattle.demands.specs.Counts.{CountersAreHistory}
 use Rattle.demands.specs.Seconds.{WrapMovesHalf, OneSecond, OneSecondInOrder}
-use Rattle.demands.specs.Zero.{withBytes, AsWithoutIt, OthersAsBefore, BySecondByte}
+use Rattle.demands.specs.Zero.{withBytes, AsWithoutIt, OthersAsBefore, BySecondByte, OnlyAddressed}
 use Rattle.demands.specs.Demands.{Demand1}
 
 -- A terminal that does something else with packets. Its small calls are ours.
@@ -150,7 +150,7 @@ shiftsData = faking (λ u p lent.
     cond (usable u (length (lent .memory)) && isLink u (p .link))
     (done (judgedAs (readOf u p) u p (sizesOf lent)) u (p .packet) (p .link) lent) (takePacket u p lent))
 
--- It takes the zero off swaps alone.
+-- It takes the zero off where the instruction is 5C, a swap.
 abbrev pub swapsAlone : Terminal
 swapsAlone = faking (λ u p lent. cond (eqb (getD (p .packet) 3 0) 0x5C) (takePacket u p lent) (takeRead u p lent))
 
@@ -190,6 +190,7 @@ ImpostorsShutOut =
     × ShutsOut Demand1 swapsAlone
     × ShutsOut OthersAsBefore takesAnyZero
     × ShutsOut BySecondByte takesAnyZero
+    × ShutsOut OnlyAddressed takesAnyZero
     × ShutsOut Demand1 takesAnyZero
 
 -- Demand 3 alone would not do: one that does nothing does it in any order. It is asked beside demand 2.

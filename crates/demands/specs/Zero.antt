@@ -6,11 +6,13 @@ use mathlib.Core.Logic.{_⊎_, _≢_}
 use mathlib.Core.List.{List, _∷_}
 use Prim.Native.Nat.{ℕ, _≤_}
 use lib.ListN.{length, getD}
-use Rattle.unit.specs.Fate.{fateNumber}
+use Rattle.unit.specs.Fate.{fateNumber, fateStatus}
+use Rattle.unit.specs.Act.{withCounters}
 use Rattle.unit.specs.Usable.{usable}
 use Rattle.unit.specs.Given.{Arrived, asRead, Lent}
 use Rattle.unit.specs.Judge.{isLink}
 use Rattle.unit.specs.Calls.{takeRead}
+use Rattle.unit.specs.declared.fate.Told.the-variants.{Byte}
 use Rattle.unit.specs.declared.unit.Unit.{Unit as TheUnit}
 use Rattle.demands.specs.Terminal.{Terminal}
 use Rattle.demands.specs.Lists.{Sent, Rmap}
@@ -41,8 +43,7 @@ AsWithoutIt t =
 abbrev pub OthersAsBefore : Terminal → Type 0
 OthersAsBefore t = (u : TheUnit) (p : Arrived) (lent : Lent) → BeginsOtherwise p → t .packet u p lent ≡ takeRead u p lent
 
--- In numbers: it goes by its second byte as it arrived. 00 is 13, the time number 16 or 19, and what is none of 00, 01, 03 and the time number is 12. So RMAP behind a zero
--- is no command.
+-- In numbers: it goes by its second byte as it arrived. 00 is 13, the time number 16 or 19, and what is none of 00, 01, 03 and the time number is 12.
 abbrev pub BySecondByte : Terminal → Type 0
 BySecondByte t =
     (u : TheUnit) (p : Arrived) (lent : Lent) → BeginsOtherwise p → 2 ≤ length (p .packet) → usable u (length (lent .memory)) ≡ true → isLink u (p .link) ≡ true
@@ -51,6 +52,15 @@ BySecondByte t =
     → (fateNumber (t .packet u p lent .answer .fate) ≡ 16) ⊎ (fateNumber (t .packet u p lent .answer .fate) ≡ 19))
     × (getD (p .packet) 1 0 ≢ 0x00 → getD (p .packet) 1 0 ≢ 0x01 → getD (p .packet) 1 0 ≢ 0x03 → getD (p .packet) 1 0 ≢ u .number
     → fateNumber (t .packet u p lent .answer .fate) ≡ 12)
+
+-- And whatever its first byte is: where that is neither the unit's logical address nor FE, nothing is done. Memory is as it was, of the unit the counters alone
+-- change, and there is no status 0. So it is with a zero in front of RMAP, of a time packet or of anything else, in a unit whose logical address is not 00.
+abbrev pub OnlyAddressed : Terminal → Type 0
+OnlyAddressed t =
+    (u : TheUnit) (p : Arrived) (lent : Lent) → BeginsOtherwise p → getD (p .packet) 0 0 ≢ u .logical → getD (p .packet) 0 0 ≢ 0xFE
+    → (t .packet u p lent .memory ≡ lent .memory)
+    × (t .packet u p lent .answer .unit ≡ withCounters u (t .packet u p lent .answer .unit .counters))
+    × (fateStatus (t .packet u p lent .answer .fate) ≢ Byte 0)
 
 -- Taking it off again changes nothing.
 abbrev pub TakenOnce : Terminal → Type 0

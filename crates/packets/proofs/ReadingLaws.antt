@@ -185,6 +185,10 @@ module _ (p : List ℕ) (n : ℕ) (h : Header) (is : readPacket p n .reading ≡
   pub header-whole : headerSize (h .instruction) ≤ length p
   header-whole = omega (arith, shown .0, size-read)
 
+  -- its target is the first byte
+  pub target-read : h .target ≡ getD p 0 0
+  target-read = sym (ap (λ (k : Header). k .target) parts-read)
+
   -- its protocol is the second byte, 01 or 03
   pub protocol-read : h .protocol ≡ getD p 1 0
   protocol-read = sym (ap (λ (k : Header). k .protocol) parts-read)

@@ -4,7 +4,7 @@ use mathlib.Core.Bool.{Bool, true, false, cond, _&&_, _||_, or-false}
 use mathlib.Core.List.{List}
 use Prim.Native.Nat.{ℕ, _^_, _<_}
 use native.Mathlib.Omega.{arith}
-use borrow.Author.Tests.{eqb-true}
+use borrow.Author.Tests.{eqb-true, ne-eqb}
 use lib.Dec.{eqb}
 use lib.ListN.{length, getD}
 use Rattle.octets.specs.Crc.{crc}
@@ -30,6 +30,9 @@ time-twelve p end address n h =
     (first-of-seven (eqb (length p) 12) (isEop end) (eqb (getD p 0 0) address || eqb (getD p 0 0) 0xFE) (eqb (getD p 1 0) n)
     (eqb (getD p 2 0) 0x9F || eqb (getD p 2 0) 0xAF) (eqb (getD p 3 0) 0x00 || eqb (getD p 3 0) 0x01) (eqb (crc p) 0) h)
 
+abbrev is-taken : TimeReading → ℕ
+is-taken r = elim r [ ThrownAway ↦ 0 | Taken s ↦ 1 ]
+
 -- a time packet of bytes has a T below 2^56
 pub taken-below : (p : List ℕ) (end : End) (logical number : ℕ) (t : TheTime) → Digits 256 p → readTime p end logical number ≡ Taken t → t .value < 2 ^ 56
 unfolding readTime
@@ -38,14 +41,23 @@ taken-below p end logical number t d = go (isTimePacket p end logical number) re
     value-in : TimeReading → ℕ
     value-in r = elim r [ ThrownAway ↦ 2 ^ 56 | Taken s ↦ s .value ]
 
-    is-taken : TimeReading → ℕ
-    is-taken r = elim r [ ThrownAway ↦ 0 | Taken s ↦ 1 ]
-
     go : (b : Bool) → isTimePacket p end logical number ≡ b → cond b (Taken (timeAt p)) ThrownAway ≡ Taken t → t .value < 2 ^ 56
     go true f e =
         let twelve = time-twelve p end logical number f in
         rw (ap value-in e) at (number-below p 4 7 d (omega (arith, twelve)))
     go false f e = absurd (omega (arith, ap is-taken e))
+
+-- a time packet that is taken is addressed to the unit or to FE
+pub taken-addressed : (p : List ℕ) (end : End) (logical number : ℕ) (t : TheTime) → readTime p end logical number ≡ Taken t
+    → (getD p 0 0 ≡ logical → ⊥) → (getD p 0 0 ≡ 0xFE → ⊥) → ⊥
+unfolding readTime
+taken-addressed p end logical number t taken unit all =
+    go (eqb (length p) 12 && isEop end) (eqb (getD p 1 0) number) (eqb (getD p 2 0) 0x9F || eqb (getD p 2 0) 0xAF) (eqb (getD p 3 0) 0x00 || eqb (getD p 3 0) 0x01)
+    (eqb (crc p) 0) (rw (ne-eqb (getD p 0 0) logical unit, ne-eqb (getD p 0 0) 0xFE all) at taken)
+  where
+    go : (a c d e f : Bool) → cond (a && false && c && d && e && f) (Taken (timeAt p)) ThrownAway ≡ Taken t → ⊥
+    go true c d e f h = omega (arith, ap is-taken h)
+    go false c d e f h = omega (arith, ap is-taken h)
 
 -- ---- when the time is to be taken, as a case and as its number
 

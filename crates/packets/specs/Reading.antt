@@ -30,8 +30,8 @@ numberOf Reply = 14
 numberOf HeaderCrc = 15
 
 -- A packet that begins 00 FE 03 is read as if its first byte weren't there: that is the last zero of the path to us, which some interfaces leave, and what
--- stands behind the path of plug-and-play is always FE (document 02, 2; 000, 5.2.3.2c). What follows is said of any bytes; a packet that arrived is
--- handed to it as `bare` leaves it.
+-- stands behind the path of plug-and-play is always FE (document 02, 2; 000, 5.2.3.2c). A byte that is not there counts as 0 here, and
+-- neither FE nor 03 is that. What follows is said of any bytes; a packet that arrived is handed to it as `bare` leaves it.
 abbrev pub hasZero : List ℕ → Bool
 hasZero p = eqb (getD p 0 0) 0x00 && eqb (getD p 1 0) 0xFE && eqb (getD p 2 0) 0x03
 

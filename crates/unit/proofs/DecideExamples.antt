@@ -86,6 +86,7 @@ openings :
     -- 12: an address that is neither
     × (opening 0x42 read 0x2A ≡ WrongAddress)
     × (opening 0xFF read 0x2A ≡ WrongAddress)
+    × (opening 0x00 read 0x2A ≡ WrongAddress)
     -- 3: another key; it goes before 12
     × (opening 0x43 read 0x2B ≡ WrongKey)
     × (opening 0x42 read 0x2B ≡ WrongKey)
@@ -95,7 +96,7 @@ openings :
     × (opening 0x42 0b10001100 0x2B ≡ UnusedCode)
     × (opening 0x43 0b11001100 0x2A ≡ UnusedCode)
 unfolding openingStatus kindOf
-openings = (refl, refl, refl, refl, refl, refl, refl, refl, refl, refl)
+openings = (refl, refl, refl, refl, refl, refl, refl, refl, refl, refl, refl)
 
 -- ---- the span
 

@@ -96,6 +96,27 @@ unfolding headerStatus
 fields-passed u h path link e s =
     or-else (openingStatus h 0x00 0xFE) (fieldsStatus (u .owner) h path link) (rw (ne-eqb (h .protocol) 0x01 e) at s) .1
 
+-- what passed is addressed to the unit, or to FE
+opening-passed : (h : Header) (key logical : ℕ) → isSuccess (openingStatus h key logical) ≡ true → (h .target ≡ logical → ⊥) → (h .target ≡ 0xFE → ⊥) → ⊥
+unfolding openingStatus
+opening-passed h key logical s unit all =
+    go (not (eqb (typeOf (h .instruction)) 1) || isUnused (kindIn h)) (not (eqb (h .key) key)) (rw (ne-eqb (h .target) logical unit, ne-eqb (h .target) 0xFE all) at s)
+  where
+    go : (a b : Bool) → isSuccess (cond a UnusedCode (cond b WrongKey WrongAddress)) ≡ true → ⊥
+    go true b e = false≢true e
+    go false true e = false≢true e
+    go false false e = false≢true e
+
+pub addressed : (u : TheUnit) (h : Header) (path : Path) (link : ℕ) → isSuccess (headerStatus u h path link) ≡ true
+    → (h .target ≡ u .logical → ⊥) → (h .target ≡ 0xFE → ⊥) → ⊥
+unfolding headerStatus
+addressed u h path link s unit all = go (eqb (h .protocol) 0x01) s
+  where
+    go : (t : Bool)
+        → isSuccess (cond t (orElse (openingStatus h (u .key) (u .logical)) (spanStatus (u .windows) h)) (orElse (openingStatus h 0x00 0xFE) (fieldsStatus (u .owner) h path link))) ≡ true → ⊥
+    go true e = opening-passed h (u .key) (u .logical) (or-else (openingStatus h (u .key) (u .logical)) (spanStatus (u .windows) h) e .0) unit all
+    go false e = opening-passed h 0x00 0xFE (or-else (openingStatus h 0x00 0xFE) (fieldsStatus (u .owner) h path link) e .0) all all
+
 -- a span that passed is one window's, with the right
 pub span-passed : (w : Windows) (h : Header) → isSuccess (spanStatus w h) ≡ true
     → ((isRmw (kindIn h) && (ltb 8 (h .length) || not (eqb (h .length % 2) 0))) ≡ false) × (isAuthorised w h ≡ true)

@@ -101,7 +101,8 @@ impl Command {
     fn with_a_wrong_part(mut self, chance: &mut Chance) -> Self {
         match chance.below(12) {
             0 | 1 => self.key ^= 1 << chance.below(8),
-            2 | 3 => self.target ^= 1 << chance.below(8),
+            2 => self.target ^= 1 << chance.below(8),
+            3 => self.target = 0,
             4 => self.extended = 1 << chance.below(8),
             5 => self.kind = chance.pick(&[0, 2, 3]),
             6 => self.length = self.length.wrapping_add(chance.pick(&[1, 2, u32::MAX])) & 0xFF_FFFF,
