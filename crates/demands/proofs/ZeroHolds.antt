@@ -25,10 +25,13 @@ use Rattle.unit.specs.Given.{Arrived, asRead, Lent}
 use Rattle.unit.specs.Fate.{isSuccess, fateNumber, fateStatus}
 use Rattle.unit.specs.Act.{withCounters}
 use Rattle.unit.specs.Decide.{headerStatus}
+use Rattle.unit.specs.Plan.{unansweredFate}
+use Rattle.unit.specs.declared.fate.Status.{Status}
 use Rattle.unit.specs.Judge.{timeRuling, judged}
 use Rattle.unit.specs.Calls.{Outcome, doneBy, takeRead, takePacket}
 use Rattle.unit.specs.declared.fate.Told.the-variants.{Byte}
 use Rattle.unit.specs.declared.unit.Unit.{Unit as TheUnit}
+use Rattle.unit.proofs.FateLaws.{unread-number}
 use Rattle.unit.proofs.DecideLaws.{addressed}
 use Rattle.unit.proofs.CommandLaws.{packets-are, command-is}
 use Rattle.unit.proofs.UsableLaws.{number-fits, alone}
@@ -102,17 +105,25 @@ by-second-byte u p lent otherwise two works there =
 -- what is counted, and no more
 abbrev DoesNothing : TheUnit → Lent → Outcome → Type 0
 DoesNothing u lent o =
-    (o .memory ≡ lent .memory) × (o .answer .unit ≡ withCounters u (o .answer .unit .counters)) × (fateStatus (o .answer .fate) ≢ Byte 0)
+    (o .memory ≡ lent .memory)
+    × (o .answer .unit ≡ withCounters u (o .answer .unit .counters))
+    × (fateStatus (o .answer .fate) ≢ Byte 0)
+    × (fateNumber (o .answer .fate) ≢ 19)
 
 pub only-addressed : OnlyAddressed ours
 only-addressed u p lent otherwise unit all =
-    packets-are u p lent (lent .memory) refl (λ o o′. DoesNothing u lent o) (λ e. (refl, refl, no-status)) (λ e f. (refl, refl, no-status)) (λ e f why g. (refl, refl, no-status))
-    (λ e f g w. (refl, refl, no-status))
+    packets-are u p lent (lent .memory) refl (λ o o′. DoesNothing u lent o) (λ e. (refl, refl, no-status, λ n. omega (arith, n)))
+    (λ e f. (refl, refl, no-status, λ n. omega (arith, n))) (λ e f why g. (refl, refl, no-status, λ n. omega (arith, n, unread-number why .1)))
+    (λ e f g w. (refl, refl, no-status, λ n. omega (arith, n)))
     (λ e f g t w. absurd (taken-addressed (asRead p .packet) (p .end) (u .logical) (u .number) t w (λ e. unit (sym first ∙ e)) (λ e. all (sym first ∙ e))))
-    (λ e f h g. command-is u h (pathIn u p) (asRead p) lent (DoesNothing u lent) (refl, refl, no-status)
-    (λ s. (λ w. (refl, refl, refused-other (headerStatus u h (pathIn u p) (p .link)) s), λ w. (refl, refl, silent-other (headerStatus u h (pathIn u p) (p .link)) s)))
+    (λ e f h g. let s = headerStatus u h (pathIn u p) (p .link) in
+    command-is u h (pathIn u p) (asRead p) lent (DoesNothing u lent) (refl, refl, no-status, λ n. omega (arith, n))
+    (λ refused. (λ w. (refl, refl, refused-other s refused, λ n. omega (arith, n)), λ w. (refl, refl, silent-other s refused, silent s refused)))
     (λ q a. absurd (elsewhere h g a)) (λ q a. absurd (elsewhere h g a)))
   where
+    silent : (s : Status) → isSuccess s ≡ false → fateNumber (unansweredFate s) ≢ 19
+    silent s e = rw e (λ n. omega (arith, n))
+
     first : getD (asRead p .packet) 0 0 ≡ getD (p .packet) 0 0
     first = ap (λ (b : List ℕ). getD b 0 0) (bare-other (p .packet) otherwise)
 

@@ -17,7 +17,7 @@ abbrev pub Demand1 : Terminal → Type 0
 Demand1 t = RowByRow t × OneTwoThree t × SmallRows t × Listed t × NoRowEmpty t × NeverStrays t × SetUpStays t × StaysUsable t × ComesBack t
 
 -- 2. Each packet does what document 01 says, byte by byte; refused verified writes and RMWs change no memory; what can be owned is the owner's. (That the code is
--- our terminal: `PacketPromise`, `TimeCodePromise`, `TicksPromise`, in Meaning; and `JudgePromise`, `AsJudged`.)
+-- our terminal: `PacketPromise`, `TimeCodePromise`, `TicksPromise`, in Meaning; and `JudgePromise`, `AsJudged`, `JudgeForetells`.)
 abbrev pub Demand2 : Terminal → Type 0
 Demand2 t = ByteByByte t × OnlyStoresChange t × RefusedChangesNone t × OwnableIsOwners t × OwnerIsSwapped t × FieldsAreOwners t × OthersStay t × Replies t
 

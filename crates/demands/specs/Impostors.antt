@@ -150,7 +150,7 @@ shiftsData = faking (λ u p lent.
     cond (usable u (length (lent .memory)) && isLink u (p .link))
     (done (judgedAs (readOf u p) u p (sizesOf lent)) u (p .packet) (p .link) lent) (takePacket u p lent))
 
--- It takes the zero off where the instruction is 5C, a swap.
+-- It takes the zero off where the instruction is 5C, a swap with a reply and no reply address.
 abbrev pub swapsAlone : Terminal
 swapsAlone = faking (λ u p lent. cond (eqb (getD (p .packet) 3 0) 0x5C) (takePacket u p lent) (takeRead u p lent))
 

@@ -74,8 +74,8 @@ AsJudged t =
     → (t .packet u p lent .answer .fate ≡ fateIn (judged u (asRead p) (sizesOf lent) .ruling))
     × (t .packet u p lent .answer .length ≡ lengthIn (judged u (asRead p) (sizesOf lent) .ruling))
 
--- So of the code: the fate, with its status, and the length of the reply that `judge` tells are those that `take_packet` answers to the same bytes, with memory and a reply buffer of
--- those sizes.
+-- So of the code: the fate, with its status, and the length of the reply that `judge` tells are those that `take_packet` answers, of the same unit, to
+-- the same bytes, end and link, with memory and a reply buffer of those sizes.
 abbrev pub JudgeForetells : Type 0
 JudgeForetells =
     (κs : _) (unit : _) (bytes : _) (end : _) (link : _) (sizes : _) (judgement : _) (exit : _)

@@ -43,7 +43,8 @@ AsWithoutIt t =
 abbrev pub OthersAsBefore : Terminal → Type 0
 OthersAsBefore t = (u : TheUnit) (p : Arrived) (lent : Lent) → BeginsOtherwise p → t .packet u p lent ≡ takeRead u p lent
 
--- In numbers: it goes by its second byte as it arrived. 00 is 13, the time number 16 or 19, and what is none of 00, 01, 03 and the time number is 12.
+-- In numbers, of such a packet of two bytes or more on a link of a usable unit: it goes by its second byte as it arrived. 00 is 13, the time number 16 or 19, and what is
+-- none of 00, 01, 03 and the time number is 12.
 abbrev pub BySecondByte : Terminal → Type 0
 BySecondByte t =
     (u : TheUnit) (p : Arrived) (lent : Lent) → BeginsOtherwise p → 2 ≤ length (p .packet) → usable u (length (lent .memory)) ≡ true → isLink u (p .link) ≡ true
@@ -53,16 +54,18 @@ BySecondByte t =
     × (getD (p .packet) 1 0 ≢ 0x00 → getD (p .packet) 1 0 ≢ 0x01 → getD (p .packet) 1 0 ≢ 0x03 → getD (p .packet) 1 0 ≢ u .number
     → fateNumber (t .packet u p lent .answer .fate) ≡ 12)
 
--- And whatever its first byte is: where that is neither the unit's logical address nor FE, nothing is done. Memory is as it was, of the unit the counters alone
--- change, and there is no status 0. So it is with a zero in front of RMAP, of a time packet or of anything else, in a unit whose logical address is not 00.
+-- And by its first byte: where that is neither the unit's logical address nor FE, there is no effect, though there may be a reply with another status. Memory is as it was, of
+-- the unit the counters alone change, there is no status 0, and no time packet is taken (19). So it is with a zero in front of RMAP, of a time packet or of anything else but
+-- FE 03, in a unit whose logical address is not 00.
 abbrev pub OnlyAddressed : Terminal → Type 0
 OnlyAddressed t =
     (u : TheUnit) (p : Arrived) (lent : Lent) → BeginsOtherwise p → getD (p .packet) 0 0 ≢ u .logical → getD (p .packet) 0 0 ≢ 0xFE
     → (t .packet u p lent .memory ≡ lent .memory)
     × (t .packet u p lent .answer .unit ≡ withCounters u (t .packet u p lent .answer .unit .counters))
     × (fateStatus (t .packet u p lent .answer .fate) ≢ Byte 0)
+    × (fateNumber (t .packet u p lent .answer .fate) ≢ 19)
 
--- Taking it off again changes nothing.
+-- The packet as it is read has the outcome of the packet as it arrived: nothing is taken off a second time.
 abbrev pub TakenOnce : Terminal → Type 0
 TakenOnce t = (u : TheUnit) (p : Arrived) (lent : Lent) → t .packet u (asRead p) lent ≡ t .packet u p lent
 
@@ -72,6 +75,6 @@ WasRefused =
     (u : TheUnit) (p : Arrived) (lent : Lent) (rest : List ℕ) → BeginsSo p rest → usable u (length (lent .memory)) ≡ true → isLink u (p .link) ≡ true
     → (u .number ≡ 0xFE → fateNumber (takeRead u p lent .answer .fate) ≡ 16) × (u .number ≢ 0xFE → fateNumber (takeRead u p lent .answer .fate) ≡ 12)
 
--- Demand 3 holds none of these packets: the second byte of its own is 01.
+-- Demand 3 holds none of these packets: every packet of its lists has 01 as its second byte.
 abbrev pub NoneWithZero : Type 0
 NoneWithZero = (c : Sent) (rest : List ℕ) → Rmap c → BeginsSo (c .arrived) rest → ⊥
