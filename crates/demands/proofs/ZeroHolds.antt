@@ -3,14 +3,12 @@ use mathlib.Core.Path.{_≡_, refl, sym, _∙_, ap}
 use mathlib.Core.Bool.{Bool, true, false, cond, _&&_, _||_}
 use mathlib.Core.Logic.{_⊎_, inl, inr, _≢_}
 use mathlib.Core.List.{List, _∷_}
-use Prim.Native.Nat.{ℕ, _≤_}
-use native.Mathlib.Nat.{lt-of-not-le}
-use native.Mathlib.Decide.{decLe}
+use Prim.Native.Nat.{ℕ}
 use native.Mathlib.Omega.{arith}
 use lib.Dec.{eqb}
 use lib.ListN.{length, getD}
 use Rattle.octets.specs.Crc.{crc}
-use Rattle.packets.specs.Reading.{isEop, bare, refused, timePacket, readProtocol, readPacket}
+use Rattle.packets.specs.Reading.{isEop, bare, refused, timePacket, readPacket}
 use Rattle.packets.specs.Time.{timeAt, readTime}
 use Rattle.packets.specs.declared.header.Header.{Header}
 use Rattle.packets.specs.declared.path.Path.{Path}
@@ -20,7 +18,7 @@ use Rattle.packets.specs.declared.time.TimeReading.{TimeReading}
 use Rattle.packets.specs.declared.time.TimeReading.the-variants.{ThrownAway, Taken}
 use Rattle.packets.proofs.BareLaws.{bare-lacks, bare-zero, bare-other, bare-once}
 use Rattle.packets.proofs.TimeLaws.{taken-addressed}
-use Rattle.packets.proofs.ReadingLaws.{target-read, protocol-extended, protocol-time, protocol-other-number, protocol-below, protocol-above, packet-protocol}
+use Rattle.packets.proofs.ReadingLaws.{target-read, protocol-extended, packet-protocol, packet-time, packet-unknown}
 use Rattle.unit.specs.Given.{Arrived, asRead, Lent}
 use Rattle.unit.specs.Fate.{isSuccess, fateNumber, fateStatus}
 use Rattle.unit.specs.Act.{withCounters}
@@ -67,16 +65,6 @@ none-with-zero c rest rmap begins = omega (arith, sym rmap ∙ ap (λ (b : List 
 
 -- ---- by the second byte
 
--- what is none of 00, 01, 03 and the time number is unknown
-unknown : (p : List ℕ) (number : ℕ) → 2 ≤ length p → getD p 1 0 ≢ 0x00 → getD p 1 0 ≢ 0x01 → getD p 1 0 ≢ 0x03 → getD p 1 0 ≢ number
-    → readPacket p number ≡ refused UnknownProtocol
-unknown p number two x y z other = sym (packet-protocol p number two) ∙ go (decLe 0xF0 (getD p 1 0)) (decLe (getD p 1 0) 0xFE)
-  where
-    go : Dec (0xF0 ≤ getD p 1 0) → Dec (getD p 1 0 ≤ 0xFE) → readProtocol (getD p 1 0) p number ≡ refused UnknownProtocol
-    go (no h) k = sym (protocol-below (getD p 1 0) p number x y z (lt-of-not-le h))
-    go (yes h) (no k) = sym (protocol-above (getD p 1 0) p number x y z (lt-of-not-le k))
-    go (yes h) (yes k) = sym (protocol-other-number (getD p 1 0) p number h k other)
-
 -- a time packet is thrown away or taken
 time-either : (r : TimeReading) (path : Path) (u : TheUnit) (bytes : List ℕ) (link : ℕ) (lent : Lent)
     → (fateNumber (doneBy (timeRuling r) path u bytes link lent .answer .fate) ≡ 16) ⊎ (fateNumber (doneBy (timeRuling r) path u bytes link lent .answer .fate) ≡ 19)
@@ -87,17 +75,17 @@ pub by-second-byte : BySecondByte ours
 unfolding judged
 by-second-byte u p lent otherwise two works there =
     let as-it-is = others-as-before u p lent otherwise in
-    let read = packet-protocol (p .packet) (u .number) two in (
-      λ e. rw (as-it-is, works, there, ← read, ← protocol-extended (getD (p .packet) 1 0) (p .packet) (u .number) e),
-      λ e. let fits = number-fits u (alone u (length (lent .memory)) works) in
-          rw (
-            as-it-is,
-            works,
-            there,
-            ← read,
-            ← protocol-time (getD (p .packet) 1 0) (p .packet) (u .number) (omega (arith, fits .0, e)) (omega (arith, fits .1, e)) e,
-          ) (time-either (readTime (p .packet) (p .end) (u .logical) (u .number)) (timePacket .path) u (p .packet) (p .link) lent),
-      λ x y z other. rw (as-it-is, works, there, unknown (p .packet) (u .number) two x y z other),
+    let fits = number-fits u (alone u (length (lent .memory)) works) in (
+      λ e. rw (
+        as-it-is,
+        works,
+        there,
+        ← packet-protocol (p .packet) (u .number) two,
+        ← protocol-extended (getD (p .packet) 1 0) (p .packet) (u .number) e,
+      ),
+      λ e. rw (as-it-is, works, there, packet-time (p .packet) (u .number) two (fits .0) (fits .1) e)
+          (time-either (readTime (p .packet) (p .end) (u .logical) (u .number)) (timePacket .path) u (p .packet) (p .link) lent),
+      λ x y z other. rw (as-it-is, works, there, packet-unknown (p .packet) (u .number) two x y z other),
     )
 
 -- ---- by the first byte
@@ -140,11 +128,10 @@ module _ (rest : List ℕ) where
 
   -- by its second byte: a time packet where the time number is FE, unknown elsewhere
   was-time : (number : ℕ) → number ≡ 0xFE → readPacket zeroed number ≡ timePacket
-  was-time number e = sym (packet-protocol zeroed number (omega arith)) ∙ sym (protocol-time 0xFE zeroed number (omega arith) (omega arith) (sym e))
+  was-time number e = packet-time zeroed number (omega arith) (omega (arith, e)) (omega (arith, e)) (sym e)
 
   was-unknown : (number : ℕ) → number ≢ 0xFE → readPacket zeroed number ≡ refused UnknownProtocol
-  was-unknown number e =
-      sym (packet-protocol zeroed number (omega arith)) ∙ sym (protocol-other-number 0xFE zeroed number (omega arith) (omega arith) (λ f. e (sym f)))
+  was-unknown number e = packet-unknown zeroed number (omega arith) (λ z. omega (arith, z)) (λ z. omega (arith, z)) (λ z. omega (arith, z)) (λ f. e (sym f))
 
   -- and 03 is no epoch code
   was-thrown : (end : End) (logical number : ℕ) → readTime zeroed end logical number ≡ ThrownAway

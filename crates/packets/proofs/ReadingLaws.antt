@@ -4,6 +4,8 @@ use mathlib.Core.Bool.{Bool, true, false, cond, _&&_, _||_}
 use mathlib.Core.Logic.{_⊎_, inl, inr}
 use mathlib.Core.List.{List}
 use Prim.Native.Nat.{ℕ, _+_, _^_, _<_, _≤_}
+use native.Mathlib.Nat.{lt-of-not-le}
+use native.Mathlib.Decide.{decLe}
 use native.Mathlib.Omega.{arith}
 use borrow.Author.Tests.{lt-ltb, le-ltb, le-leb, lt-leb, eq-eqb, ne-eqb, ltb-false, eqb-true, eqb-false}
 use lib.Dec.{eqb, leb, ltb}
@@ -100,6 +102,23 @@ packet-short p n h = rw (lt-ltb _ _ h)
 pub packet-protocol : (p : List ℕ) (n : ℕ) → 2 ≤ length p → readProtocol (getD p 1 0) p n ≡ readPacket p n
 unfolding readPacket
 packet-protocol p n h = rw (le-ltb _ _ h)
+
+-- so by its second byte: the time number, or none of those that are known
+module _ (p : List ℕ) (n : ℕ) (two : 2 ≤ length p) where
+  abbrev second : ℕ
+  second = getD p 1 0
+
+  pub packet-time : 0xF0 ≤ n → n ≤ 0xFE → second ≡ n → readPacket p n ≡ timePacket
+  packet-time low high e =
+      sym (packet-protocol p n two) ∙ sym (protocol-time second p n (omega (arith, low, e)) (omega (arith, high, e)) e)
+
+  pub packet-unknown : (second ≡ 0x00 → ⊥) → (second ≡ 0x01 → ⊥) → (second ≡ 0x03 → ⊥) → (second ≡ n → ⊥) → readPacket p n ≡ refused UnknownProtocol
+  packet-unknown x y z other = sym (packet-protocol p n two) ∙ go (decLe 0xF0 second) (decLe second 0xFE)
+    where
+      go : Dec (0xF0 ≤ second) → Dec (second ≤ 0xFE) → readProtocol second p n ≡ refused UnknownProtocol
+      go (no h) k = sym (protocol-below second p n x y z (lt-of-not-le h))
+      go (yes h) (no k) = sym (protocol-above second p n x y z (lt-of-not-le k))
+      go (yes h) (yes k) = sym (protocol-other-number second p n h k other)
 
 -- ---- back from a packet that was read as a command: what the checks have shown
 
