@@ -15,7 +15,6 @@ use Rattle.packets.specs.declared.instruction.Kind.{Kind}
 use Rattle.packets.specs.declared.instruction.Kind.the-variants.{ReadModifyWrite, Write}
 use Rattle.packets.specs.declared.header.Header.{Header}
 use Rattle.packets.specs.declared.path.Path.{Path}
-use Rattle.packets.specs.declared.reading.Reading.the-variants.{Command}
 use Rattle.unit.specs.Some.{some}
 use Rattle.unit.specs.Fate.{isSuccess, fateNumber}
 use Rattle.unit.specs.Windows.{holds, hasRight, used}
@@ -39,7 +38,7 @@ use Rattle.unit.proofs.CommandLaws.{takeCommand, packet-is, command-is}
 use Rattle.unit.proofs.GrantLaws.{authorised-window}
 use Rattle.unit.proofs.MemoryLaws.{memory-outside, storing-kind}
 use Rattle.demands.proofs.NumbersHold.{one-two-three, small-rows}
-use Rattle.demands.specs.Terminal.{ours, readOf, IsCommand, Call, packet, timeCode, ticks, answerTo, after}
+use Rattle.demands.specs.Terminal.{ours, IsCommand, pathIn, Call, packet, timeCode, ticks, answerTo, after}
 use Rattle.demands.specs.Refusals.{SmallRow, ByCode, ByTicks}
 use Rattle.demands.specs.Bounds.{WindowForWriting, OnlyInWindow, NeverStrays, SetUpStays, OfBytes, StaysUsable, Lends, ComesBack}
 
@@ -71,9 +70,9 @@ storing-bit h (inl k) = rw (write-bit h k)
 storing-bit h (inr k) = rw k (or-true (isWrite (h .instruction)))
 
 module _ (u : TheUnit) (p : Arrived) (lent : Lent) (works : usable u (length (lent .memory)) ≡ true) (h : Header)
-    (read : readOf u p .reading ≡ Command h) where
+    (read : IsCommand u p h) where
   abbrev path : Path
-  path = readOf u p .path
+  path = pathIn u p
 
   abbrev left : List ℕ
   left = stored (memoryActionIn h (asRead p)) (asRead p .packet) (lent .memory)

@@ -12,7 +12,7 @@ use Rattle.octets.proofs.PlaceLaws.{first-true, second-true}
 use Rattle.packets.specs.Header.{kindIn}
 use Rattle.packets.specs.declared.header.Header.{Header}
 use Rattle.packets.specs.declared.path.Path.{Path}
-use Rattle.packets.specs.declared.reading.Reading.the-variants.{Refused, Time, Command}
+use Rattle.packets.specs.declared.reading.Reading.the-variants.{Refused, Time}
 use Rattle.packets.proofs.ReadingLaws.{not-command, one-command}
 use Rattle.unit.specs.Some.{some}
 use Rattle.unit.specs.Fate.{byteOf, isSuccess, fateNumber, fateStatus}
@@ -32,7 +32,7 @@ use Rattle.unit.proofs.CommandLaws.{takeCommand, packet-is, command-is}
 use Rattle.unit.proofs.GrantLaws.{authorised-window, authorised-extended}
 use Rattle.demands.proofs.Below.{below}
 use Rattle.demands.proofs.NumbersHold.{one-two-three}
-use Rattle.demands.specs.Terminal.{readOf, ours}
+use Rattle.demands.specs.Terminal.{ours, readOf, IsCommand, pathIn}
 use Rattle.demands.specs.Refusals.{lengthDue}
 use Rattle.demands.specs.Names.{register, RowsKept, NamesMissing, MissingRefused, MissingIsF1, WindowWithRight, ObeyedInWindow}
 
@@ -104,7 +104,7 @@ obeyed-in-window u p lent h is rmap =
     (λ e f k g. command k (one-command (readOf u p .reading) h k is g))
   where
     path : Path
-    path = readOf u p .path
+    path = pathIn u p
 
     Q : Outcome → Type 0
     Q o = fateStatus (o .answer .fate) ≡ Byte 0 → WindowWithRight u h
@@ -122,10 +122,10 @@ obeyed-in-window u p lent h is rmap =
 
 -- ---- fields
 
-module _ (u : TheUnit) (p : Arrived) (lent : Lent) (h : Header) (is : readOf u p .reading ≡ Command h)
+module _ (u : TheUnit) (p : Arrived) (lent : Lent) (h : Header) (is : IsCommand u p h)
     (fields : h .protocol ≡ 0x03) (lacks : NamesMissing h) where
   abbrev path : Path
-  path = readOf u p .path
+  path = pathIn u p
 
   other : h .protocol ≡ 0x01 → ⊥
   other e = omega (arith, sym e ∙ fields)

@@ -38,7 +38,7 @@ use Rattle.unit.proofs.MemoryLaws.{memory-outside, span-data, span-stored, stor
 use Rattle.packets.proofs.BareLaws.{bare-rmap}
 use Rattle.packets.proofs.ReadingLaws.{header-whole, protocol-read, no-time}
 use Rattle.demands.proofs.Weave.{Keeps}
-use Rattle.demands.specs.Terminal.{readOf, ours}
+use Rattle.demands.specs.Terminal.{ours, readOf, pathIn}
 use Rattle.demands.specs.Lists.{Sent, Rmap, State, lentFor, Heard, heardOf, nextOf, refersToNone, inSpan, refers, isStore, stores}
 
 -- a packet whose protocol is 01 is read as it is
@@ -47,9 +47,9 @@ second-read p rmap = ap (λ (b : List ℕ). getD b 1 0) (bare-rmap (p .packet) r
 
 -- ---- a memory command whose header is accepted refers to its span, whatever its data
 
-data-refers : (h : Header) (p : Arrived) → refersToNone (Byte (byteOf (dataStatusOf h (asRead p)))) ≡ false
+data-refers : (h : Header) (p : Arrived) → refersToNone (Byte (byteOf (dataStatusOf h p))) ≡ false
 data-refers h p =
-    data-is (λ s. refersToNone (Byte (byteOf s)) ≡ false) (dataCount h (allAtHand h (asRead p))) (allAtHand h (asRead p) .dataCrc) (wantedCount h) (p .end) refl refl refl refl refl
+    data-is (λ s. refersToNone (Byte (byteOf s)) ≡ false) (dataCount h (allAtHand h p)) (allAtHand h p .dataCrc) (wantedCount h) (p .end) refl refl refl refl refl
 
 silent-refers : (s : Status) → refersToNone (Byte (byteOf s)) ≡ false → refersToNone (fateStatus (unansweredFate s)) ≡ false
 silent-refers s e = go (isSuccess s)
@@ -71,7 +71,7 @@ module _ (s : State) (c : Sent) (rmap : Rmap c) where
   read = readOf u (c .arrived) .reading
 
   abbrev path : Path
-  path = readOf u (c .arrived) .path
+  path = pathIn u (c .arrived)
 
   -- fate and length of the reply are the same on every memory of one length
   pub same-fate : (m k : List ℕ) → length m ≡ length k → (on m .answer .fate ≡ on k .answer .fate) × (on m .answer .length ≡ on k .answer .length)
@@ -105,7 +105,7 @@ module _ (s : State) (c : Sent) (rmap : Rmap c) where
   after h m = stored (memoryActionIn h (asRead (c .arrived))) (asRead (c .arrived) .packet) m
 
   spoken-refers : (h : Header) → refersToNone (fateStatus (Replied (status h))) ≡ false
-  spoken-refers h = data-refers h (c .arrived)
+  spoken-refers h = data-refers h (asRead (c .arrived))
 
   -- every byte stays that it does not store to
   byte-stays : (m : List ℕ) → length m ≡ length (s .memory) → (i : ℕ) → stores s c i ≡ false → getD (on m .memory) i 0 ≡ getD m i 0
@@ -202,7 +202,7 @@ pub only-counted : (u : TheUnit) (p : Arrived) (lent : Lent) → getD (p .packet
 unfolding countedFor
 only-counted u p lent rmap =
     packet-is u p lent Q (λ e. refl) (λ e f. refl) (λ e f why g. refl) (λ e f g. refl) (λ e f g t. absurd (no-time (asRead p .packet) (u .number) (second-read p rmap) g))
-    (λ e f h g. command-is u h (readOf u p .path) (asRead p) lent Q refl (λ a. (λ w. refl, λ w. refl)) (λ q a. (λ w. refl, λ w. refl))
+    (λ e f h g. command-is u h (pathIn u p) (asRead p) lent Q refl (λ a. (λ w. refl, λ w. refl)) (λ q a. (λ w. refl, λ w. refl))
     (λ q a. absurd (q (protocol-read (asRead p .packet) (u .number) h g ∙ second-read p rmap))))
   where
     Q : Outcome → Type 0

@@ -20,14 +20,12 @@ use Rattle.packets.proofs.BareLaws.{bare-lacks, bare-zero, bare-other, bare-onc
 use Rattle.packets.proofs.TimeLaws.{taken-addressed}
 use Rattle.packets.proofs.ReadingLaws.{target-read, protocol-extended, packet-protocol, packet-time, packet-unknown}
 use Rattle.unit.specs.Given.{Arrived, asRead, Lent}
-use Rattle.unit.specs.Fate.{isSuccess, fateNumber, fateStatus}
-use Rattle.unit.specs.Act.{withCounters}
+use Rattle.unit.specs.Fate.{isSuccess, fateNumber}
 use Rattle.unit.specs.Decide.{headerStatus}
 use Rattle.unit.specs.Plan.{unansweredFate}
 use Rattle.unit.specs.declared.fate.Status.{Status}
 use Rattle.unit.specs.Judge.{timeRuling, judged}
-use Rattle.unit.specs.Calls.{Outcome, doneBy, takeRead, takePacket}
-use Rattle.unit.specs.declared.fate.Told.the-variants.{Byte}
+use Rattle.unit.specs.Calls.{doneBy, takeRead, takePacket}
 use Rattle.unit.specs.declared.unit.Unit.{Unit as TheUnit}
 use Rattle.unit.proofs.FateLaws.{unread-number}
 use Rattle.unit.proofs.DecideLaws.{addressed}
@@ -35,7 +33,7 @@ use Rattle.unit.proofs.CommandLaws.{packets-are, command-is}
 use Rattle.unit.proofs.UsableLaws.{number-fits, alone}
 use Rattle.demands.proofs.NamesHold.{refused-other, silent-other, no-status}
 use Rattle.demands.specs.Terminal.{ours, IsCommand, pathIn}
-use Rattle.demands.specs.Zero.{withBytes, ReadSo, AsWithoutIt, OthersAsBefore, BySecondByte, OnlyAddressed, TakenOnce, WasRefused, NoneWithZero}
+use Rattle.demands.specs.Zero.{withBytes, ReadSo, AsWithoutIt, OthersAsBefore, BySecondByte, NoEffect, OnlyAddressed, TakenOnce, WasRefused, NoneWithZero}
 
 -- two packets of one end and link that are read as the same bytes have one outcome
 same-bytes : (u : TheUnit) (p : Arrived) (lent : Lent) {a b : List ℕ} → a ≡ b → takeRead u (withBytes p a) lent ≡ takeRead u (withBytes p b) lent
@@ -90,22 +88,14 @@ by-second-byte u p lent otherwise two works there =
 
 -- ---- by the first byte
 
--- what is counted, and no more
-abbrev DoesNothing : TheUnit → Lent → Outcome → Type 0
-DoesNothing u lent o =
-    (o .memory ≡ lent .memory)
-    × (o .answer .unit ≡ withCounters u (o .answer .unit .counters))
-    × (fateStatus (o .answer .fate) ≢ Byte 0)
-    × (fateNumber (o .answer .fate) ≢ 19)
-
 pub only-addressed : OnlyAddressed ours
 only-addressed u p lent otherwise unit all =
-    packets-are u p lent (lent .memory) refl (λ o o′. DoesNothing u lent o) (λ e. (refl, refl, no-status, λ n. omega (arith, n)))
+    packets-are u p lent (lent .memory) refl (λ o o′. NoEffect u lent o) (λ e. (refl, refl, no-status, λ n. omega (arith, n)))
     (λ e f. (refl, refl, no-status, λ n. omega (arith, n))) (λ e f why g. (refl, refl, no-status, λ n. omega (arith, n, unread-number why .1)))
     (λ e f g w. (refl, refl, no-status, λ n. omega (arith, n)))
     (λ e f g t w. absurd (taken-addressed (asRead p .packet) (p .end) (u .logical) (u .number) t w (λ e. unit (sym first ∙ e)) (λ e. all (sym first ∙ e))))
     (λ e f h g. let s = headerStatus u h (pathIn u p) (p .link) in
-    command-is u h (pathIn u p) (asRead p) lent (DoesNothing u lent) (refl, refl, no-status, λ n. omega (arith, n))
+    command-is u h (pathIn u p) (asRead p) lent (NoEffect u lent) (refl, refl, no-status, λ n. omega (arith, n))
     (λ refused. (λ w. (refl, refl, refused-other s refused, λ n. omega (arith, n)), λ w. (refl, refl, silent-other s refused, silent s refused)))
     (λ q a. absurd (elsewhere h g a)) (λ q a. absurd (elsewhere h g a)))
   where

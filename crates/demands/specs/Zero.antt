@@ -11,7 +11,7 @@ use Rattle.unit.specs.Act.{withCounters}
 use Rattle.unit.specs.Usable.{usable}
 use Rattle.unit.specs.Given.{Arrived, asRead, Lent}
 use Rattle.unit.specs.Judge.{isLink}
-use Rattle.unit.specs.Calls.{takeRead}
+use Rattle.unit.specs.Calls.{Outcome, takeRead}
 use Rattle.unit.specs.declared.fate.Told.the-variants.{Byte}
 use Rattle.unit.specs.declared.unit.Unit.{Unit as TheUnit}
 use Rattle.demands.specs.Terminal.{Terminal}
@@ -54,16 +54,20 @@ BySecondByte t =
     × (getD (p .packet) 1 0 ≢ 0x00 → getD (p .packet) 1 0 ≢ 0x01 → getD (p .packet) 1 0 ≢ 0x03 → getD (p .packet) 1 0 ≢ u .number
     → fateNumber (t .packet u p lent .answer .fate) ≡ 12)
 
--- And by its first byte: where that is neither the unit's logical address nor FE, there is no effect, though there may be a reply with another status. Memory is as it was, of
--- the unit the counters alone change, there is no status 0, and no time packet is taken (19). So it is with a zero in front of RMAP, of a time packet or of anything else but
--- FE 03, in a unit whose logical address is not 00.
+-- No effect, though there may be a reply: memory is as it was, of the unit the counters alone change, there is no status 0, and no time packet is taken (19).
+abbrev pub NoEffect : TheUnit → Lent → Outcome → Type 0
+NoEffect u lent o =
+    (o .memory ≡ lent .memory)
+    × (o .answer .unit ≡ withCounters u (o .answer .unit .counters))
+    × (fateStatus (o .answer .fate) ≢ Byte 0)
+    × (fateNumber (o .answer .fate) ≢ 19)
+
+-- And by its first byte: where that is neither the unit's logical address nor FE, it has no effect. So it is with a zero in front of RMAP, of a time packet or of anything else
+-- but FE 03, in a unit whose logical address is not 00.
 abbrev pub OnlyAddressed : Terminal → Type 0
 OnlyAddressed t =
     (u : TheUnit) (p : Arrived) (lent : Lent) → BeginsOtherwise p → getD (p .packet) 0 0 ≢ u .logical → getD (p .packet) 0 0 ≢ 0xFE
-    → (t .packet u p lent .memory ≡ lent .memory)
-    × (t .packet u p lent .answer .unit ≡ withCounters u (t .packet u p lent .answer .unit .counters))
-    × (fateStatus (t .packet u p lent .answer .fate) ≢ Byte 0)
-    × (fateNumber (t .packet u p lent .answer .fate) ≢ 19)
+    → NoEffect u lent (t .packet u p lent)
 
 -- The packet as it is read has the outcome of the packet as it arrived: nothing is taken off a second time.
 abbrev pub TakenOnce : Terminal → Type 0

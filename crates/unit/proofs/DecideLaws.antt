@@ -1,6 +1,7 @@
 -- Laws of decisions: what a command that got past the checks has shown.
 use mathlib.Core.Path.{_≡_, refl, sym, _∙_, ap}
 use mathlib.Core.Bool.{Bool, true, false, cond, not, _&&_, _||_, false≢true}
+use mathlib.Core.Logic.{_⊎_, inl, inr, ⊎-elim}
 use mathlib.Core.List.{List, [], _∷_}
 use Prim.Native.Nat.{ℕ, _+_, _-_, _/_, _%_, _^_, _≤_, min}
 use native.Mathlib.Omega.{arith}
@@ -96,26 +97,37 @@ unfolding headerStatus
 fields-passed u h path link e s =
     or-else (openingStatus h 0x00 0xFE) (fieldsStatus (u .owner) h path link) (rw (ne-eqb (h .protocol) 0x01 e) at s) .1
 
--- what passed is addressed to the unit, or to FE
+-- what passed has passed its opening, by the unit's key and address or by plug-and-play's
+pub opened : (u : TheUnit) (h : Header) (path : Path) (link : ℕ) → isSuccess (headerStatus u h path link) ≡ true
+    → (isSuccess (openingStatus h (u .key) (u .logical)) ≡ true) ⊎ (isSuccess (openingStatus h 0x00 0xFE) ≡ true)
+unfolding headerStatus
+opened u h path link s = go (eqb (h .protocol) 0x01) s
+  where
+    memory : Status
+    memory = orElse (openingStatus h (u .key) (u .logical)) (spanStatus (u .windows) h)
+
+    fields : Status
+    fields = orElse (openingStatus h 0x00 0xFE) (fieldsStatus (u .owner) h path link)
+
+    go : (t : Bool) → isSuccess (cond t memory fields) ≡ true
+        → (isSuccess (openingStatus h (u .key) (u .logical)) ≡ true) ⊎ (isSuccess (openingStatus h 0x00 0xFE) ≡ true)
+    go true e = inl (or-else (openingStatus h (u .key) (u .logical)) (spanStatus (u .windows) h) e .0)
+    go false e = inr (or-else (openingStatus h 0x00 0xFE) (fieldsStatus (u .owner) h path link) e .0)
+
+-- and is addressed to the unit, or to FE
 opening-passed : (h : Header) (key logical : ℕ) → isSuccess (openingStatus h key logical) ≡ true → (h .target ≡ logical → ⊥) → (h .target ≡ 0xFE → ⊥) → ⊥
 unfolding openingStatus
 opening-passed h key logical s unit all =
-    go (not (eqb (typeOf (h .instruction)) 1) || isUnused (kindIn h)) (not (eqb (h .key) key)) (rw (ne-eqb (h .target) logical unit, ne-eqb (h .target) 0xFE all) at s)
-  where
-    go : (a b : Bool) → isSuccess (cond a UnusedCode (cond b WrongKey WrongAddress)) ≡ true → ⊥
-    go true b e = false≢true e
-    go false true e = false≢true e
-    go false false e = false≢true e
+    let code = not (eqb (typeOf (h .instruction)) 1) || isUnused (kindIn h) in
+    let elsewhere = cond (not (eqb (h .target) logical) && not (eqb (h .target) 0xFE)) WrongAddress Success in
+    let one = passed code UnusedCode (cond (not (eqb (h .key) key)) WrongKey elsewhere) refl s in
+    let two = passed (not (eqb (h .key) key)) WrongKey elsewhere refl (one .1) in
+    false≢true (rw (ne-eqb (h .target) logical unit, ne-eqb (h .target) 0xFE all) at (two .1))
 
 pub addressed : (u : TheUnit) (h : Header) (path : Path) (link : ℕ) → isSuccess (headerStatus u h path link) ≡ true
     → (h .target ≡ u .logical → ⊥) → (h .target ≡ 0xFE → ⊥) → ⊥
-unfolding headerStatus
-addressed u h path link s unit all = go (eqb (h .protocol) 0x01) s
-  where
-    go : (t : Bool)
-        → isSuccess (cond t (orElse (openingStatus h (u .key) (u .logical)) (spanStatus (u .windows) h)) (orElse (openingStatus h 0x00 0xFE) (fieldsStatus (u .owner) h path link))) ≡ true → ⊥
-    go true e = opening-passed h (u .key) (u .logical) (or-else (openingStatus h (u .key) (u .logical)) (spanStatus (u .windows) h) e .0) unit all
-    go false e = opening-passed h 0x00 0xFE (or-else (openingStatus h 0x00 0xFE) (fieldsStatus (u .owner) h path link) e .0) all all
+addressed u h path link s unit all =
+    ⊎-elim (λ e. opening-passed h (u .key) (u .logical) e unit all) (λ e. opening-passed h 0x00 0xFE e all all) (opened u h path link s)
 
 -- a span that passed is one window's, with the right
 pub span-passed : (w : Windows) (h : Header) → isSuccess (spanStatus w h) ≡ true

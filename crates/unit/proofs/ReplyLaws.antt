@@ -1,6 +1,7 @@
 -- Laws of replies: what the plan counts is what is written. Where the fate is 20, all of the reply stands in the buffer.
 use mathlib.Core.Path.{_≡_, refl, sym, _∙_}
 use mathlib.Core.Bool.{Bool, true, false, cond, not, _&&_, _||_, false≢true}
+use mathlib.Core.Logic.{⊎-elim}
 use mathlib.Core.List.{List}
 use Prim.Native.Nat.{ℕ, _/_, _%_, _^_, _<_, _≤_}
 use native.Mathlib.Omega.{arith}
@@ -21,7 +22,7 @@ use Rattle.unit.specs.Fate.{byteOf, isSuccess, fateNumber}
 use Rattle.unit.specs.Usable.{usable}
 use Rattle.unit.specs.Fields.{named, valuesOf}
 use Rattle.unit.specs.Given.{Arrived, Lent}
-use Rattle.unit.specs.Decide.{openingStatus, spanStatus, isFieldLength, fieldsStatus, headerStatus, allAtHand, dataCount, dataStatusOf}
+use Rattle.unit.specs.Decide.{openingStatus, isFieldLength, headerStatus, allAtHand, dataCount, dataStatusOf}
 use Rattle.unit.specs.Plan.{actionOf, fieldActionOf, replyCount, plannedFor, decided}
 use Rattle.unit.specs.Act.{dataFor, repliedTo}
 use Rattle.unit.specs.Granted.{Readable}
@@ -31,9 +32,9 @@ use Rattle.unit.specs.declared.decide.Action.{Action}
 use Rattle.unit.specs.declared.decide.Action.the-variants.{Nothing, ReadMemory, RepeatByte}
 use Rattle.unit.specs.declared.decide.Plan.{Plan}
 use Rattle.unit.specs.declared.unit.Unit.{Unit as TheUnit}
-use Rattle.unit.proofs.FateLaws.{passed, or-else}
+use Rattle.unit.proofs.FateLaws.{passed}
 use Rattle.unit.proofs.FieldLaws.{length-named, length-fields}
-use Rattle.unit.proofs.DecideLaws.{write-bit, fields-passed, named-passed, names-length}
+use Rattle.unit.proofs.DecideLaws.{write-bit, fields-passed, named-passed, names-length, opened}
 use Rattle.unit.proofs.PlanLaws.{memoryActionIn, fieldActionIn, planned-is, decided-is}
 use Rattle.unit.proofs.GrantLaws.{accepted-memory}
 
@@ -48,13 +49,7 @@ used-code h key logical s =
     either-false other (isUnused (kindIn h)) (passed (other || isUnused (kindIn h)) UnusedCode rest refl s .0) .1
 
 pub accepted-code : (u : TheUnit) (h : Header) (path : Path) (link : ℕ) → isSuccess (headerStatus u h path link) ≡ true → isUnused (kindIn h) ≡ false
-unfolding headerStatus
-accepted-code u h path link s = go (eqb (h .protocol) 0x01) s
-  where
-    go : (t : Bool) → isSuccess (cond t (cond (isSuccess (openingStatus h (u .key) (u .logical))) (spanStatus (u .windows) h) (openingStatus h (u .key) (u .logical)))
-        (cond (isSuccess (openingStatus h 0x00 0xFE)) (fieldsStatus (u .owner) h path link) (openingStatus h 0x00 0xFE))) ≡ true → isUnused (kindIn h) ≡ false
-    go true e = used-code h (u .key) (u .logical) (or-else (openingStatus h (u .key) (u .logical)) (spanStatus (u .windows) h) e .0)
-    go false e = used-code h 0x00 0xFE (or-else (openingStatus h 0x00 0xFE) (fieldsStatus (u .owner) h path link) e .0)
+accepted-code u h path link s = ⊎-elim (used-code h (u .key) (u .logical)) (used-code h 0x00 0xFE) (opened u h path link s)
 
 -- ---- the data of an obeyed command without the write bit: L bytes, and L/2 for RMW
 
