@@ -1,6 +1,6 @@
 -- The customer's demands hold of our terminal.
 use Rattle.demands.specs.Terminal.{ours}
-use Rattle.demands.specs.Demands.{Demand1, Demand2, Demand3, Histories, NamesKept, SecondsKept, ZeroIgnored}
+use Rattle.demands.specs.Demands.{Demand1, Demand2, Demand3, Histories, NamesKept, SecondsKept, ZeroIgnored, PreambleAccepted}
 use Rattle.demands.proofs.RefusalsHold.{row-by-row}
 use Rattle.demands.proofs.NumbersHold.{one-two-three, small-rows, listed}
 use Rattle.demands.proofs.RowsReached.{no-row-empty}
@@ -14,6 +14,7 @@ use Rattle.demands.proofs.NamesHold.{rows-kept, missing-refused, missin
 use Rattle.demands.proofs.SecondsHold.{others-leave-time, wrap-moves-half, one-is-nearest, ticks-are-seconds, one-second, one-second-in-order}
 use Rattle.demands.proofs.SecondsShown.{some-turn}
 use Rattle.demands.proofs.ZeroHolds.{read-so, as-without-it, others-as-before, by-second-byte, only-addressed, taken-once, was-refused, none-with-zero}
+use Rattle.demands.proofs.PreambleHolds.{made-is-taken, taken-is-made, greatest-tick, reader-alone, twelve-as-before, never-wrong, was-thrown-away}
 
 pub demand-1 : Demand1 ours
 demand-1 = (row-by-row, one-two-three, small-rows, listed, no-row-empty, never-strays, set-up-stays, stays-usable, comes-back)
@@ -35,3 +36,6 @@ seconds-kept = (others-leave-time, wrap-moves-half, one-is-nearest, ticks-are-se
 
 pub zero-ignored : ZeroIgnored ours
 zero-ignored = (read-so, as-without-it, others-as-before, by-second-byte, only-addressed, taken-once, was-refused, none-with-zero)
+
+pub preamble-accepted : PreambleAccepted ours
+preamble-accepted = (made-is-taken, taken-is-made, greatest-tick, reader-alone, twelve-as-before, never-wrong, was-thrown-away)

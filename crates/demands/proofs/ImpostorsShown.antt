@@ -45,6 +45,7 @@ use Rattle.demands.proofs.NamesHold.{byte-in}
 use Rattle.demands.proofs.NumbersHold.{one-two-three}
 use Rattle.demands.proofs.SecondsShown.{ahead-moves-more, ahead-by-ticks, ahead-in-order}
 use Rattle.demands.proofs.ZeroShown.{reads-the-zero-shut-out, shifts-data-shut-out, swaps-alone-shut-out, takes-any-zero-shut-out}
+use Rattle.demands.proofs.PreambleShown.{before-shut-out, rounds-time-shut-out, drops-seconds-shut-out, counts-nothing-shut-out}
 use Rattle.demands.proofs.MeaningHolds.{refused-changes-none}
 use Rattle.unit.proofs.UsableLaws.{packet-with-memory, code-with-memory, ticks-with-memory}
 use Rattle.unit.proofs.CommandLaws.{packet-is, command-fate}
@@ -258,4 +259,14 @@ impostors-shut-out = (
   takes-any-zero-shut-out .1,
   takes-any-zero-shut-out .2,
   takes-any-zero-shut-out .3,
+  before-shut-out .0,
+  before-shut-out .1,
+  rounds-time-shut-out .0,
+  rounds-time-shut-out .1,
+  drops-seconds-shut-out .0,
+  drops-seconds-shut-out .1,
+  drops-seconds-shut-out .2,
+  counts-nothing-shut-out .0,
+  counts-nothing-shut-out .1,
+  counts-nothing-shut-out .2,
 )

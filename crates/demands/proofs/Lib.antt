@@ -13,6 +13,7 @@ pub mod ListsHold
 pub mod CountsHold
 pub mod SecondsHold
 pub mod ZeroHolds
+pub mod PreambleHolds
 pub mod NamesHold
 pub mod CasesHold
 pub mod OutcomesHold
@@ -20,4 +21,5 @@ pub mod Witnesses
 pub mod SecondsShown
 pub mod OnlyOurs
 pub mod ZeroShown
+pub mod PreambleShown
 pub mod ImpostorsShown

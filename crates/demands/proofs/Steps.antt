@@ -201,7 +201,7 @@ pub only-counted : (u : TheUnit) (p : Arrived) (lent : Lent) → getD (p .packet
     → takePacket u p lent .answer .unit ≡ countedUnit (takePacket u p lent .answer .fate) u
 unfolding countedFor
 only-counted u p lent rmap =
-    packet-is u p lent Q (λ e. refl) (λ e f. refl) (λ e f why g. refl) (λ e f g. refl) (λ e f g t. absurd (no-time (asRead p .packet) (u .number) (second-read p rmap) g))
+    packet-is u p lent Q (λ e. refl) (λ e f. refl) (λ e f why g. refl) (λ e f g. refl) (λ e f g t. absurd (no-time (asRead p .packet) (u .number) (inl (second-read p rmap)) g))
     (λ e f h g. command-is u h (pathIn u p) (asRead p) lent Q refl (λ a. (λ w. refl, λ w. refl)) (λ q a. (λ w. refl, λ w. refl))
     (λ q a. absurd (q (protocol-read (asRead p .packet) (u .number) h g ∙ second-read p rmap))))
   where

@@ -1,15 +1,13 @@
 -- The zero in front of plug-and-play packets: taken off where it is, once, and nothing else is.
 use mathlib.Core.Path.{_≡_, refl, sym, _∙_, ap}
-use mathlib.Core.Bool.{Bool, true, false, cond, _&&_, _||_}
-use mathlib.Core.Logic.{_⊎_, inl, inr, _≢_}
+use mathlib.Core.Bool.{true, false}
+use mathlib.Core.Logic.{_⊎_, inl, inr, ⊎-elim, _≢_}
 use mathlib.Core.List.{List, _∷_}
 use Prim.Native.Nat.{ℕ}
 use native.Mathlib.Omega.{arith}
-use lib.Dec.{eqb}
 use lib.ListN.{length, getD}
-use Rattle.octets.specs.Crc.{crc}
-use Rattle.packets.specs.Reading.{isEop, bare, refused, timePacket, readPacket}
-use Rattle.packets.specs.Time.{timeAt, readTime}
+use Rattle.packets.specs.Reading.{bare, refused, timePacket, readPacket}
+use Rattle.packets.specs.Time.{readTime}
 use Rattle.packets.specs.declared.header.Header.{Header}
 use Rattle.packets.specs.declared.path.Path.{Path}
 use Rattle.packets.specs.declared.reading.End.{End}
@@ -17,7 +15,7 @@ use Rattle.packets.specs.declared.reading.Refusal.the-variants.{UnknownProtocol
 use Rattle.packets.specs.declared.time.TimeReading.{TimeReading}
 use Rattle.packets.specs.declared.time.TimeReading.the-variants.{ThrownAway, Taken}
 use Rattle.packets.proofs.BareLaws.{bare-lacks, bare-zero, bare-other, bare-once}
-use Rattle.packets.proofs.TimeLaws.{taken-addressed}
+use Rattle.packets.proofs.TimeLaws.{taken-addressed, thrown-away}
 use Rattle.packets.proofs.ReadingLaws.{target-read, protocol-extended, packet-protocol, packet-time, packet-unknown}
 use Rattle.unit.specs.Given.{Arrived, asRead, Lent}
 use Rattle.unit.specs.Fate.{isSuccess, fateNumber}
@@ -125,13 +123,7 @@ module _ (rest : List ℕ) where
 
   -- and 03 is no epoch code
   was-thrown : (end : End) (logical number : ℕ) → readTime zeroed end logical number ≡ ThrownAway
-  unfolding readTime
-  was-thrown end logical number =
-      go (eqb (length zeroed) 12 && isEop end && (eqb 0x00 logical || false) && eqb 0xFE number) (eqb (getD rest 0 0) 0x00 || eqb (getD rest 0 0) 0x01) (eqb (crc zeroed) 0)
-    where
-      go : (a b c : Bool) → cond (a && false && b && c) (Taken (timeAt zeroed)) ThrownAway ≡ ThrownAway
-      go true b c = refl
-      go false b c = refl
+  was-thrown end logical number = thrown-away zeroed end logical number (λ passed. ⊎-elim (λ e. omega (arith, e)) (λ e. omega (arith, e)) (passed .epoch))
 
 pub was-refused : WasRefused
 unfolding judged

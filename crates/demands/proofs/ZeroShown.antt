@@ -37,13 +37,13 @@ abbrev asking : List ℕ
 asking = 0x4C ∷ 0x00 ∷ 0x67 ∷ 0x00 ∷ 0x01 ∷ 0x00 ∷ 0x00 ∷ 0x00 ∷ 0x00 ∷ 0x08 ∷ 0x00 ∷ 0x00 ∷ 0x04 ∷ 0x96 ∷ []
 
 -- a packet to the unit, and the Device ID, the number and the first byte of memory that it leaves
-abbrev told : Terminal → List ℕ → Outcome
+abbrev pub told : Terminal → List ℕ → Outcome
 told t p = t .packet (unit 0) (arrived p 1) (lent memory buffer)
 
 abbrev device : Outcome → ℕ
 device o = o .answer .unit .owner .device
 
-abbrev fate : Outcome → ℕ
+abbrev pub fate : Outcome → ℕ
 fate o = fateNumber (o .answer .fate)
 
 abbrev byte : Outcome → ℕ
@@ -86,7 +86,7 @@ with-or-without t rest measure e f differ meets =
     differ (sym e ∙ ap measure (meets (unit 0) (arrived (zeroed rest) 1) (lent memory buffer) rest refl) ∙ f)
 
 -- and what differs from ours on a packet of bytes, by demand 1, since what meets that is ours
-not-ours : (t : Terminal) (p : List ℕ) (measure : Outcome → ℕ) {a b : ℕ} → Digits 256 p → measure (told t p) ≡ a → measure (told ours p) ≡ b → a ≢ b → Demand1 t → ⊥
+pub not-ours : (t : Terminal) (p : List ℕ) (measure : Outcome → ℕ) {a b : ℕ} → Digits 256 p → measure (told t p) ≡ a → measure (told ours p) ≡ b → a ≢ b → Demand1 t → ⊥
 not-ours t p measure bytes e f differ meets =
     differ (sym e ∙ ap measure (only-ours t (meets .0) (meets .1) (meets .2) .0 (unit 0) (arrived p 1) (lent memory buffer) bytes) ∙ f)
 

@@ -1,21 +1,24 @@
--- Document 01's 'Cases by hand', in one table; and beside it the cases of the Time-Code's wrap (document 02, 3) and of a zero in front (document 02, 2).
+-- Document 01's 'Cases by hand', in one table; and beside it the cases of the Time-Code's wrap (document 02, 3), of a zero in front (document 02, 2) and of
+-- the newer preamble (document 02, 12).
 use mathlib.Core.Path.{_≡_}
 use mathlib.Core.Bool.{true}
 use mathlib.Core.List.{List, [], _∷_}
 use Prim.Native.Nat.{ℕ, _-_, _^_}
-use lib.ListN.{length}
+use lib.ListN.{length, getD}
 use Rattle.octets.specs.Crc.{crc}
 use Rattle.packets.specs.Instruction.{typeOf, codeOf, kindOf, isVerified, wantsReply, isIncrementing}
 use Rattle.packets.specs.Path.{kept, pathBytes}
 use Rattle.packets.specs.declared.instruction.Kind.{Kind}
 use Rattle.packets.specs.declared.instruction.Kind.the-variants.{Read, ReadModifyWrite, Write}
 use Rattle.packets.specs.declared.reading.End.{End}
+use Rattle.packets.specs.declared.reading.End.the-variants.{Eop}
 use Rattle.unit.specs.Fate.{fateNumber}
 use Rattle.unit.specs.Usable.{usable, usableUnit}
 use Rattle.unit.specs.Act.{combineByte}
 use Rattle.unit.specs.Given.{Lent}
 use Rattle.unit.specs.Judge.{isLink}
 use Rattle.unit.specs.Calls.{takePacket, takeTimeCode, takeTicks}
+use Rattle.unit.specs.declared.calls.Answer.{Answer}
 use Rattle.unit.specs.declared.clock.Elapsed.{Elapsed}
 use Rattle.unit.specs.declared.clock.Waiting.{Waiting}
 use Rattle.unit.specs.declared.clock.Waiting.the-variants.{NoValue, Value}
@@ -112,3 +115,43 @@ ZeroCases =
     -- and so does another byte in front of FE 03
     × GetsAt 0xFE (0x01 ∷ 0xFE ∷ 0x03 ∷ []) 16
     × GetsAt 0xF0 (0x01 ∷ 0xFE ∷ 0x03 ∷ []) 12
+
+-- What a packet that ended by EOP comes to in every usable unit with time number F0, on any of its links.
+abbrev pub ComesTo : List ℕ → (Answer → Type 0) → Type 0
+ComesTo p Is =
+    (u : TheUnit) (link : ℕ) (lent : Lent) → usable u (length (lent .memory)) ≡ true → isLink u link ≡ true → u .number ≡ 0xF0
+    → Is (takePacket u (record { packet = p; end = Eop; link = link }) lent .answer)
+
+-- It is taken, and ET or what waits is so many ticks; or it is thrown away.
+abbrev pub ShowsAtOnce : List ℕ → ℕ → Type 0
+ShowsAtOnce p et = ComesTo p (λ a. (fateNumber (a .fate) ≡ 19) × (a .unit .clock .elapsed .value ≡ et))
+
+abbrev pub WaitsFor : List ℕ → ℕ → Type 0
+WaitsFor p et = ComesTo p (λ a. (fateNumber (a .fate) ≡ 19) × (a .unit .clock .waiting ≡ Value (record { value = et; epoch = getD p 2 0 })))
+
+abbrev pub IsThrownAway : List ℕ → Type 0
+IsThrownAway p = ComesTo p (λ a. fateNumber (a .fate) ≡ 16)
+
+abbrev pub PreambleCases : Type 0
+PreambleCases =
+    -- T alone: 5 1/2 seconds, at once and at the wrap
+    ShowsAtOnce (0xFE ∷ 0xF0 ∷ 0x9F ∷ 0x01 ∷ 0x00 ∷ 0x00 ∷ 0x00 ∷ 0x05 ∷ 0x80 ∷ 0x00 ∷ 0x00 ∷ 0xB0 ∷ []) 0x00000005800000
+    × WaitsFor (0xFE ∷ 0xF0 ∷ 0xAF ∷ 0x00 ∷ 0x00 ∷ 0x00 ∷ 0x00 ∷ 0x05 ∷ 0x80 ∷ 0x00 ∷ 0x00 ∷ 0x09 ∷ []) 0x00000005800000
+    -- an octet of seconds, one of fraction, one of each
+    × ShowsAtOnce (0xFE ∷ 0xF0 ∷ 0x9F ∷ 0x21 ∷ 0x00 ∷ 0x00 ∷ 0x00 ∷ 0x00 ∷ 0x05 ∷ 0x80 ∷ 0x00 ∷ 0x00 ∷ 0x8D ∷ []) 0x00000005800000
+    × ShowsAtOnce (0xFE ∷ 0xF0 ∷ 0x9F ∷ 0x05 ∷ 0x00 ∷ 0x00 ∷ 0x00 ∷ 0x05 ∷ 0x80 ∷ 0x00 ∷ 0x00 ∷ 0xFF ∷ 0xBB ∷ []) 0x00000005800000
+    × WaitsFor (0xFE ∷ 0xF0 ∷ 0x9F ∷ 0x24 ∷ 0x00 ∷ 0x00 ∷ 0x00 ∷ 0x00 ∷ 0x05 ∷ 0x80 ∷ 0x00 ∷ 0x00 ∷ 0xFF ∷ 0x42 ∷ []) 0x00000005800000
+    -- three and seven; the last tick of all stays the last
+    × ShowsAtOnce (0xFE ∷ 0xF0 ∷ 0x9F ∷ 0x7D ∷ 0x00 ∷ 0x00 ∷ 0x00 ∷ 0x00 ∷ 0x00 ∷ 0x00 ∷ 0x05 ∷ 0x80 ∷ 0x00 ∷ 0x00 ∷ 0x80 ∷ 0x00 ∷ 0x00 ∷ 0x00 ∷ 0x00 ∷ 0x00 ∷ 0x00 ∷ 0x49 ∷ []) 0x00000005800000
+    × WaitsFor (0xFE ∷ 0xF0 ∷ 0x9F ∷ 0x7C ∷ 0x00 ∷ 0x00 ∷ 0x00 ∷ 0xFF ∷ 0xFF ∷ 0xFF ∷ 0xFF ∷ 0xFF ∷ 0xFF ∷ 0xFF ∷ 0xFF ∷ 0xFF ∷ 0xFF ∷ 0xFF ∷ 0xFF ∷ 0xFF ∷ 0xFF ∷ 0x99 ∷ []) 0xFFFFFFFFFFFFFF
+    -- an octet of seconds that is not 0
+    × IsThrownAway (0xFE ∷ 0xF0 ∷ 0x9F ∷ 0x21 ∷ 0x01 ∷ 0x00 ∷ 0x00 ∷ 0x00 ∷ 0x05 ∷ 0x80 ∷ 0x00 ∷ 0x00 ∷ 0x70 ∷ [])
+    × IsThrownAway (0xFE ∷ 0xF0 ∷ 0x9F ∷ 0x61 ∷ 0x00 ∷ 0x00 ∷ 0x80 ∷ 0x00 ∷ 0x00 ∷ 0x00 ∷ 0x05 ∷ 0x80 ∷ 0x00 ∷ 0x00 ∷ 0x6A ∷ [])
+    -- bit 0, bit 6
+    × IsThrownAway (0xFE ∷ 0xF0 ∷ 0x9F ∷ 0x85 ∷ 0x00 ∷ 0x00 ∷ 0x00 ∷ 0x05 ∷ 0x80 ∷ 0x00 ∷ 0x00 ∷ 0xFF ∷ 0x25 ∷ [])
+    × IsThrownAway (0xFE ∷ 0xF0 ∷ 0x9F ∷ 0x07 ∷ 0x00 ∷ 0x00 ∷ 0x00 ∷ 0x05 ∷ 0x80 ∷ 0x00 ∷ 0x00 ∷ 0xFF ∷ 0xE3 ∷ [])
+    -- a byte short, a byte long
+    × IsThrownAway (0xFE ∷ 0xF0 ∷ 0x9F ∷ 0x05 ∷ 0x00 ∷ 0x00 ∷ 0x00 ∷ 0x05 ∷ 0x80 ∷ 0x00 ∷ 0x00 ∷ 0xC6 ∷ [])
+    × IsThrownAway (0xFE ∷ 0xF0 ∷ 0x9F ∷ 0x05 ∷ 0x00 ∷ 0x00 ∷ 0x00 ∷ 0x05 ∷ 0x80 ∷ 0x00 ∷ 0x00 ∷ 0xFF ∷ 0x00 ∷ 0xB8 ∷ [])
+    × IsThrownAway (0xFE ∷ 0xF0 ∷ 0x9F ∷ 0x21 ∷ 0x00 ∷ 0x00 ∷ 0x00 ∷ 0x05 ∷ 0x80 ∷ 0x00 ∷ 0x00 ∷ 0x82 ∷ [])
+    × IsThrownAway (0xFE ∷ 0xF0 ∷ 0x9F ∷ 0x21 ∷ 0x00 ∷ 0x00 ∷ 0x00 ∷ 0x00 ∷ 0x00 ∷ 0x05 ∷ 0x80 ∷ 0x00 ∷ 0x00 ∷ 0xF6 ∷ [])

@@ -1,4 +1,4 @@
--- The customer's three demands, each in one place, of any terminal. The parts stand in Refusals and Bounds (1), Meaning (2), Lists (3), Counts, Names, Seconds and Zero;
+-- The customer's three demands, each in one place, of any terminal. The parts stand in Refusals and Bounds (1), Meaning (2), Lists (3), Counts, Names, Seconds, Zero and Preamble;
 -- what is no matter of a terminal's answers, in Cases (hand cases), Outcomes (promises of every public function) and Impostors. That demand 1 leaves no room is
 -- said in Only.
 use Rattle.demands.specs.Terminal.{Terminal}
@@ -10,6 +10,7 @@ use Rattle.demands.specs.Counts.{CountersAreHistory, LowCountNothing}
 use Rattle.demands.specs.Names.{RowsKept, MissingRefused, MissingIsF1, ObeyedInWindow}
 use Rattle.demands.specs.Seconds.{OthersLeaveTime, WrapMovesHalf, OneIsNearest, TicksAreSeconds, OneSecond, OneSecondInOrder, SomeTurn}
 use Rattle.demands.specs.Zero.{ReadSo, AsWithoutIt, OthersAsBefore, BySecondByte, OnlyAddressed, TakenOnce, WasRefused, NoneWithZero}
+use Rattle.demands.specs.Preamble.{MadeIsTaken, TakenIsMade, GreatestTick, ReaderAlone, TwelveAsBefore, NeverWrong, WasThrownAway}
 
 -- 1. Any packet, any end marker, any lent memory: the terminal answers, never strays, always comes back; every refusal has its number, its
 -- reply and a fixed effect on memory, unit and reply buffer. (It checks for itself: `OctetsAskNothing`, `PacketsAskNothing`, `UnitAsksNothing`, in Outcomes.)
@@ -25,7 +26,8 @@ Demand2 t = ByteByByte t × OnlyStoresChange t × RefusedChangesNone t × Ownabl
 abbrev pub Demand3 : Terminal → Type 0
 Demand3 t = Merges t
 
--- Beside them: counters are the history, names are kept, the Time-Code's wrap goes to the nearest second, and a zero in front of plug-and-play is as if it weren't there.
+-- Beside them: counters are the history, names are kept, the Time-Code's wrap goes to the nearest second, a zero in front of plug-and-play is as if it weren't there, and
+-- time packets may have the newer preamble.
 abbrev pub Histories : Terminal → Type 0
 Histories t = CountersAreHistory t × LowCountNothing t
 
@@ -37,3 +39,6 @@ SecondsKept t = OthersLeaveTime t × WrapMovesHalf t × OneIsNearest × TicksAre
 
 abbrev pub ZeroIgnored : Terminal → Type 0
 ZeroIgnored t = ReadSo × AsWithoutIt t × OthersAsBefore t × BySecondByte t × OnlyAddressed t × TakenOnce t × WasRefused × NoneWithZero
+
+abbrev pub PreambleAccepted : Terminal → Type 0
+PreambleAccepted t = MadeIsTaken t × TakenIsMade t × GreatestTick t × ReaderAlone t × TwelveAsBefore t × NeverWrong t × WasThrownAway

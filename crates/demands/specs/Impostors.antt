@@ -1,15 +1,24 @@
 -- Impostors (document 01, 'What a promise has to say'): terminals that a demand has to shut out.
 use mathlib.Core.Path.{_≡_}
-use mathlib.Core.Bool.{true, cond, _&&_}
+use mathlib.Core.Bool.{Bool, true, cond, _&&_, _||_}
 use mathlib.Core.List.{List, []}
-use Prim.Native.Nat.{ℕ, _+_, _%_, _^_}
+use Prim.Native.Nat.{ℕ, _+_, _/_, _%_, _^_}
 use lib.Dec.{eqb}
 use lib.ListN.{length, getD, drop, replicate}
+use Rattle.octets.specs.Places.{part}
+use Rattle.octets.specs.Numbers.{number}
+use Rattle.octets.specs.Crc.{crc}
+use Rattle.packets.specs.Reading.{isEop}
+use Rattle.packets.specs.Time.{whenOf, preambleBits, addedSeconds, addedFraction, timeAt, readTime}
 use Rattle.packets.specs.Reply.{replyLength, replied}
 use Rattle.packets.specs.declared.header.Header.{Header}
 use Rattle.packets.specs.declared.path.Path.{Path}
 use Rattle.packets.specs.declared.reading.Reading.{Reading}
 use Rattle.packets.specs.declared.reading.Reading.the-variants.{Refused, Time, Command}
+use Rattle.packets.specs.declared.reading.End.{End}
+use Rattle.packets.specs.declared.time.Time.{Time as TheTime}
+use Rattle.packets.specs.declared.time.TimeReading.{TimeReading}
+use Rattle.packets.specs.declared.time.TimeReading.the-variants.{ThrownAway, Taken}
 use Rattle.unit.specs.Fate.{fateNumber}
 use Rattle.unit.specs.Usable.{usable}
 use Rattle.unit.specs.Counters.{total}
@@ -33,6 +42,7 @@ use Rattle.demands.specs.Lists.{Merges}
 use Rattle.demands.specs.Counts.{CountersAreHistory}
 use Rattle.demands.specs.Seconds.{WrapMovesHalf, OneSecond, OneSecondInOrder}
 use Rattle.demands.specs.Zero.{withBytes, AsWithoutIt, OthersAsBefore, BySecondByte, OnlyAddressed}
+use Rattle.demands.specs.Preamble.{reading, before, MadeIsTaken, TakenIsMade, GreatestTick, TwelveAsBefore}
 use Rattle.demands.specs.Demands.{Demand1}
 
 -- A terminal that does something else with packets. Its small calls are ours.
@@ -158,6 +168,36 @@ swapsAlone = faking (λ u p lent. cond (eqb (getD (p .packet) 3 0) 0x5C) (takePa
 abbrev pub takesAnyZero : Terminal
 takesAnyZero = faking (λ u p lent. takeRead u (withBytes p (cond (eqb (getD (p .packet) 0 1) 0x00) (drop 1 (p .packet)) (p .packet))) lent)
 
+-- It takes time packets by the newer preamble, but rounds to the nearest tick instead of cutting off: by the first octet that is cut off.
+abbrev pub rounded : List ℕ → TimeReading → TimeReading
+rounded p ThrownAway = ThrownAway
+rounded p (Taken t) = Taken (record {
+  epoch = t .epoch;
+  when = t .when;
+  value = t .value + getD (part (11 + addedSeconds p) (addedFraction p) p) 0 0 / 0x80;
+})
+
+abbrev pub roundsTime : Terminal
+roundsTime = reading (λ p end logical timeNumber. rounded p (readTime p end logical timeNumber))
+
+-- It looks at all but the octets of seconds that were added, and so drops what they hold.
+abbrev pub soundBut : List ℕ → End → ℕ → ℕ → Bool
+soundBut p end logical timeNumber =
+    isEop end && (eqb (getD p 0 0) logical || eqb (getD p 0 0) 0xFE) && eqb (getD p 1 0) timeNumber && (eqb (getD p 2 0) 0x9F || eqb (getD p 2 0) 0xAF)
+    && (eqb (preambleBits 0 0 p) 0 && eqb (preambleBits 6 6 p) 0) && eqb (crc p) 0
+
+abbrev pub dropsSeconds : Terminal
+dropsSeconds = reading (λ p end logical timeNumber.
+    cond (eqb (length p) (12 + addedSeconds p + addedFraction p) && soundBut p end logical timeNumber) (Taken (timeAt p)) ThrownAway)
+
+-- It takes twelve bytes, whatever their second octet adds, as if nothing were added.
+abbrev pub asTwelve : List ℕ → TheTime
+asTwelve p = record { epoch = getD p 2 0; when = whenOf (preambleBits 7 7 p); value = number (part 4 7 p) }
+
+abbrev pub countsNothing : Terminal
+countsNothing = reading (λ p end logical timeNumber.
+    cond (eqb (length p) 12 && soundBut p end logical timeNumber) (Taken (asTwelve p)) (readTime p end logical timeNumber))
+
 -- ---- which demand shuts out which
 
 abbrev pub ShutsOut : (Terminal → Type 0) → Terminal → Type 0
@@ -167,7 +207,9 @@ ShutsOut Demand t = Demand t → ⊥
 -- history's counts the fifth. What only claims to reply is shut out by the rows of demand 1; what gives up, by the history of demand 1, in which memory of
 -- another length may be lent; what clears memory, by the part of demand 2 that says what changes it. What gets a second ahead is shut out by what is said of a wrap,
 -- and of two, whether the Time-Codes between them are lost or come. What does not take the zero off, or not everywhere, is shut out by what is said of it, what
--- takes off too much by what is said of other packets, and all four by demand 1 as well.
+-- takes off too much by what is said of other packets, and all four by demand 1 as well. Of those that read time packets otherwise, the receiver of before is shut
+-- out by what is taken; one that rounds by the greatest tick; what drops seconds, by that and by what else is taken; what does not count, by that and by what
+-- was before; and all four by demand 1.
 abbrev pub ImpostorsShutOut : Type 0
 ImpostorsShutOut =
     ShutsOut ByteByByte refusesAll
@@ -192,6 +234,16 @@ ImpostorsShutOut =
     × ShutsOut BySecondByte takesAnyZero
     × ShutsOut OnlyAddressed takesAnyZero
     × ShutsOut Demand1 takesAnyZero
+    × ShutsOut MadeIsTaken before
+    × ShutsOut Demand1 before
+    × ShutsOut GreatestTick roundsTime
+    × ShutsOut Demand1 roundsTime
+    × ShutsOut GreatestTick dropsSeconds
+    × ShutsOut TakenIsMade dropsSeconds
+    × ShutsOut Demand1 dropsSeconds
+    × ShutsOut TakenIsMade countsNothing
+    × ShutsOut TwelveAsBefore countsNothing
+    × ShutsOut Demand1 countsNothing
 
 -- Demand 3 alone would not do: one that does nothing does it in any order. It is asked beside demand 2.
 abbrev pub ThreeAloneLetsBy : Type 0

@@ -9,6 +9,7 @@ pub mod Lists
 pub mod Counts
 pub mod Seconds
 pub mod Zero
+pub mod Preamble
 pub mod Names
 pub mod Cases
 pub mod Outcomes

@@ -5,10 +5,11 @@ use mathlib.Core.Bool.{Bool, true, false, cond, _&&_, and-true}
 use mathlib.Core.Logic.{_⊎_, inl, inr, ⊎-elim}
 use Prim.Native.Nat.{ℕ, zero, suc, _+_, _-_, _*_, _/_, _%_, _^_, _<_, _≤_}
 use native.Mathlib.Omega.{arith}
-use native.Mathlib.Nat.{le-of-eq, lt-of-not-le, one-mul, div-eq-of-lt, div-lt-iff-lt-mul, mul-pos, mul-assoc, add-comm, add-mul-div-right, mul-add-mod-self-right, zero-mul, zero-add, mod-one, pow-zero, pow-succ', mod-eq-of-lt, mod-lt, suc-add}
+use native.Mathlib.Nat.{le-of-eq, lt-of-not-le, one-mul, div-eq-of-lt, div-lt-iff-lt-mul, mul-pos, mul-assoc, add-mul, add-assoc, add-comm, add-mul-div-right, mul-add-mod-self-right, zero-mul, zero-add, mod-one, pow-zero, pow-succ', mod-eq-of-lt, mod-lt, suc-add}
+use lib.Pow.{pow-add}
 use lib.Arith.{mod-mul, digits-lt, digits-div}
 use lib.Dec.{leb, ltb, eqb}
-use lib.ListN.{length, getD, take, drop, replicate, length-replicate, drop-of-length-le}
+use lib.ListN.{length, getD, take, drop, replicate, length-replicate, length-append, drop-of-length-le}
 use lib.Seq.{take-all}
 use native.Mathlib.Decide.{decLt}
 use borrow.Author.Tests.{leb-true, le-leb, lt-ltb, le-ltb, eq-eqb, ne-eqb}
@@ -30,6 +31,17 @@ address-bytes = refl
 worth-zeros : (base k : ℕ) (ds : List ℕ) → worth base (replicate k 0 ++ ds) ≡ worth base ds
 worth-zeros base zero ds = refl
 worth-zeros base (suc k) ds = simp (zero-mul, zero-add) (worth-zeros base k ds)
+
+-- of two rows, the first weighs more by as many digits as the second has
+pub worth-append : (base : ℕ) (xs ys : List ℕ) → worth base (xs ++ ys) ≡ worth base xs * base ^ length ys + worth base ys
+worth-append base [] ys = sym (simp (zero-mul, zero-add))
+worth-append base (x ∷ xs) ys =
+    let more = base ^ length ys in
+    let first : x * base ^ length (xs ++ ys) ≡ x * base ^ length xs * more =
+    ap (λ (k : ℕ). x * base ^ k) (length-append xs ys) ∙ ap (λ (m : ℕ). x * m) (pow-add base (length xs) (length ys)) ∙ sym (mul-assoc x (base ^ length xs) more) in
+    ap₂ (λ (a b : ℕ). a + b) first (worth-append base xs ys)
+    ∙ sym (add-assoc (x * base ^ length xs * more) (worth base xs * more) (worth base ys))
+    ∙ ap (λ (m : ℕ). m + worth base ys) (sym (add-mul (x * base ^ length xs) (worth base xs) more))
 
 -- as many digits as were asked for
 pub length-digits : (base width n : ℕ) → length (digits base width n) ≡ width
@@ -63,7 +75,7 @@ digits-drop base (suc n) [] t = tt
 digits-drop base (suc n) (d ∷ ds) t = digits-drop base n ds (t .1)
 
 module _ (base : ℕ) (some : zero < base) where
-  pow-some : (k : ℕ) → zero < base ^ k
+  pub pow-some : (k : ℕ) → zero < base ^ k
   pow-some zero = rw pow-zero (omega arith)
   pow-some (suc k) = rw pow-succ' (mul-pos some (pow-some k))
 

@@ -6,3 +6,4 @@ pub mod ReadingLaws
 pub mod HeaderLaws
 pub mod ReplyLaws
 pub mod TimeLaws
+pub mod PreambleLaws

@@ -17,7 +17,7 @@ use Rattle.octets.proofs.NumberLaws.{number-below}
 use Rattle.packets.specs.Instruction.{typeOf, replyAddressSize, headerSize}
 use Rattle.packets.specs.Header.{instructionAt, partsAt}
 use Rattle.packets.specs.Path.{pathOf}
-use Rattle.packets.specs.Reading.{refused, timePacket, command, readCommand, readProtocol, readPacket}
+use Rattle.packets.specs.Reading.{bare, refused, timePacket, command, readCommand, readProtocol, readPacket}
 use Rattle.packets.specs.declared.instruction.Instruction.{Instruction}
 use Rattle.packets.specs.declared.path.Path.{Path}
 use Rattle.packets.specs.declared.header.Header.{Header}
@@ -27,6 +27,7 @@ use Rattle.packets.specs.declared.reading.Reading.the-variants.{Refused,
 use Rattle.packets.specs.declared.reading.Refusal.{Refusal}
 use Rattle.packets.specs.declared.reading.Refusal.the-variants.{Incomplete, UnknownProtocol, ExtendedProtocol, Reply, HeaderCrc}
 use Rattle.packets.proofs.PathLaws.{path-short}
+use Rattle.packets.proofs.BareLaws.{bare-zero, bare-other}
 
 -- ---- the checks of a command, in their order
 
@@ -225,7 +226,7 @@ module _ (p : List ℕ) (n : ℕ) (h : Header) (is : readPacket p n .reading ≡
       rw (ap (λ (k : Header). k .length) parts-read) at
       (number-below p (4 + replyAddressSize (instructionAt p) + 8) 3 d (omega (arith, shown .0)))
 
--- ---- a packet with protocol 01 is no time packet
+-- ---- a packet with protocol 01 or 03 is no time packet
 
 command-no-time : (p : List ℕ) → rank (readCommand p .reading) ≡ 1 → ⊥
 unfolding readCommand
@@ -242,16 +243,17 @@ command-no-time p =
     go false false false true e = omega (arith, e)
     go false false false false e = omega (arith, e)
 
-pub no-time : (p : List ℕ) (n : ℕ) → getD p 1 0 ≡ 0x01 → readPacket p n .reading ≡ Time → ⊥
-unfolding readPacket readProtocol
-no-time p n rmap e =
-    let r : readPacket p n ≡ cond (ltb (length p) 2) (refused Incomplete) (readCommand p) =
-    ap (λ (q : ℕ). cond (ltb (length p) 2) (refused Incomplete) (readProtocol q p n)) rmap in
-    go (ltb (length p) 2) (sym (ap (λ (k : Packet). rank (k .reading)) r) ∙ ap rank e)
+pub no-time : (p : List ℕ) (n : ℕ) → (getD p 1 0 ≡ 0x01) ⊎ (getD p 1 0 ≡ 0x03) → readPacket p n .reading ≡ Time → ⊥
+unfolding readPacket
+no-time p n commands e = go (ltb (length p) 2) (rw (← protocol-command (getD p 1 0) p n commands) at (ap rank e))
   where
     go : (a : Bool) → rank (cond a (refused Incomplete) (readCommand p) .reading) ≡ 1 → ⊥
     go true t = omega (arith, t)
     go false t = command-no-time p t
+
+-- so one that is read as a time packet had no zero in front
+pub time-bare : (p : List ℕ) (n : ℕ) → readPacket (bare p) n .reading ≡ Time → bare p ≡ p
+time-bare p n t = bare-other p (λ q e. no-time (bare p) n (inr (ap (λ (b : List ℕ). getD b 1 0) (ap bare e ∙ bare-zero q))) t)
 
 -- ---- the path of a packet that was read has at most twelve bytes
 

@@ -1,7 +1,10 @@
-// The time packet (document 01, 'Time'; 004, 'CCSDS Unsegmented Code Transfer Protocol Format').
+// The time packet (document 01, 'Time', with request 12 of document 02; 004, 'CCSDS Unsegmented Code Transfer Protocol Format').
 ghost use mathlib.Core.Path.{_≡_};
+ghost use Prim.Native.Nat.{_+_, _≤_};
+ghost use lib.Dec.{eqb};
 ghost use lib.ListN.{length};
-ghost use Rattle.packets.specs.Time.{timeNumberOf, isTimePacket, whenOf, timeAt, readTime};
+ghost use Rattle.octets.specs.Numbers.{number as numberOf};
+ghost use Rattle.packets.specs.Time.{timeNumberOf, whenOf, octetBits, addedSeconds, isTimePacket, timeAt, readTime};
 use crate::reading::End;
 
 // When the time that a packet brings is to be taken: at the wrap of the Time-Code, or at once.
@@ -44,38 +47,83 @@ pub fn read_time(packet: &[u8], end: End, logical: u8, number: u8) -> TimeReadin
     TimeReading::Taken(time_at(packet))
 }
 
+// How many octets of seconds the second preamble octet adds, by its bits 1-2, and how many of fraction, by its bits 3-5 (004, 'Draft P-Field
+// format'; bit 0 is the most significant).
+fn added_seconds(octet: u8) -> usize
+    ensures { λ n. ⌜ n ≡ octetBits 1 2 octet ⌝ }
+{
+    (octet / 0b0010_0000 % 4) as usize
+}
+
+fn added_fraction(octet: u8) -> usize
+    ensures { λ n. ⌜ n ≡ octetBits 3 5 octet ⌝ }
+{
+    (octet / 0b0000_0100 % 8) as usize
+}
+
 fn is_time_packet(p: &[u8], end: End, logical: u8, number: u8) -> bool
     ensures { λ t. ⌜ t ≡ isTimePacket (now (p .entry)) end logical number ⌝ }
 {
-    if p.len() != 12 {
+    if p.len() < 12 {
+        return false;
+    }
+    let octet = p[3];
+    let more = added_seconds(octet);
+    if p.len() != 12 + more + added_fraction(octet) {
         return false;
     }
     let eop = end.is_eop();
+    let zeros = worth_nothing(&p[4..4 + more]);
     let sum = octets::crc_of(p);
     eop
         & ((p[0] == logical) | (p[0] == 0xFE))
         & (p[1] == number)
         & ((p[2] == 0x9F) | (p[2] == 0xAF))
-        & ((p[3] == 0x00) | (p[3] == 0x01))
+        & ((octet / 0b1000_0000 % 2 == 0) & (octet / 0b0000_0010 % 2 == 0))
+        & zeros
         & (sum == 0)
 }
 
-// What a packet of twelve bytes says of the time.
+// Whether bytes are worth nothing.
+fn worth_nothing(s: &[u8]) -> bool
+    ensures { λ z. ⌜ z ≡ eqb (numberOf (now (s .entry))) 0 ⌝ }
+{
+    let mut i = 0;
+    while i < s.len() {
+        if s[i] != 0 {
+            return false;
+        }
+        i += 1;
+    }
+    true
+}
+
+// What a time packet says of the time. T is behind the seconds that were added.
 fn time_at(p: &[u8]) -> Time
-    requires { ⌜ length (now p) ≡ 12 ⌝ }
+    requires { ⌜ 12 + addedSeconds (now p) ≤ length (now p) ⌝ }
     ensures { λ t. ⌜ t ≡ timeAt (now (p .entry)) ⌝ }
 {
+    let octet = p[3];
+    let at = 4 + added_seconds(octet);
     Time {
         epoch: p[2],
-        when: when_of(p[3]),
-        value: octets::number7(p[4], p[5], p[6], p[7], p[8], p[9], p[10]),
+        when: when_of(octet % 2),
+        value: octets::number7(
+            p[at],
+            p[at + 1],
+            p[at + 2],
+            p[at + 3],
+            p[at + 4],
+            p[at + 5],
+            p[at + 6],
+        ),
     }
 }
 
-fn when_of(b: u8) -> When
-    ensures { λ w. ⌜ w ≡ whenOf b ⌝ }
+fn when_of(bit: u8) -> When
+    ensures { λ w. ⌜ w ≡ whenOf bit ⌝ }
 {
-    if b == 0x01 {
+    if bit == 1 {
         return When::AtOnce;
     }
     When::AtWrap

@@ -5,6 +5,7 @@
 pub mod difference;
 pub mod input;
 pub mod outcome;
+pub mod preamble;
 pub mod program;
 pub mod run;
 mod shortest;

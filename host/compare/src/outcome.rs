@@ -1,9 +1,11 @@
 //! What can come of a packet, a Time-Code, ticks or a bad record, and what came of those that ran.
 //!
 //! The outcome of a packet is what stands in front of it, its protocol and its kind, as its bytes show them, with the fate and the status
-//! that were printed. A wrap of the Time-Codes, where the unit was shown before it and behind it, has one more: what it found, and what
-//! became of the time. `of_bench` and `of_units` say from document 01, with requests 2 and 3 of document 02, which there are; what a run
-//! reaches has to be all of them, and no other.
+//! that were printed. The kind of a time packet that has the unit's number is what its second preamble octet shows. A wrap of the
+//! Time-Codes, where the unit was shown before it and behind it, has one more outcome: what it found, and what became of the time.
+//! `of_bench` and `of_units` say from document 01, with requests 2, 3 and 12 of document 02, which there are; what a run reaches has to be
+//! all of them, and no other.
+use crate::preamble::{self, Preamble};
 use std::collections::BTreeSet;
 use std::fmt;
 use stories::Flaw;
@@ -73,6 +75,8 @@ pub enum Kind {
     UnusedType,
     /// A command with this code, bits 5 to 2 of the instruction.
     Code(u8),
+    /// A time packet that was taken or thrown away.
+    Time(Preamble),
 }
 
 /// Fate and status, the second and the third word of the line that is printed of a call.
@@ -89,7 +93,13 @@ impl Outcome {
     pub fn packet(packet: &[u8], line: &str) -> Option<Self> {
         let (front, behind) = behind_front(packet);
         let protocol = protocol(behind);
-        told(line).map(|(fate, status)| Outcome::Packet(front, protocol, kind(front, behind), fate, status))
+        told(line).map(|(fate, status)| {
+            let kind = match (front, fate) {
+                (Front::Nothing, 16 | 19) => Kind::Time(Preamble::of(packet, fate == 19)),
+                _ => kind(front, behind),
+            };
+            Outcome::Packet(front, protocol, kind, fate, status)
+        })
     }
 
     pub fn time_code(line: &str) -> Option<Self> {
@@ -172,12 +182,13 @@ fn kind(front: Front, behind: &[u8]) -> Kind {
 const COMMANDS: [(Front, Protocol); 3] =
     [(Front::Nothing, Protocol::Rmap), (Front::Nothing, Protocol::PlugAndPlay), (Front::Zero, Protocol::PlugAndPlay)];
 
-/// What is not, and the fates that it can have in any unit. Fate 2, a link that the unit does not have, is one of every packet's.
+/// What is not, and the fates that it can have in any unit, save those of time packets with its number. Fate 2, a link that the unit does
+/// not have, is one of every packet's.
 const NO_COMMANDS: [(Front, Protocol, &[u8]); 12] = [
     (Front::Nothing, Protocol::None, &[11]),
     (Front::Nothing, Protocol::Extended, &[13]),
     (Front::Nothing, Protocol::Unknown, &[12]),
-    (Front::Nothing, Protocol::Time, &[12, 16, 19]),
+    (Front::Nothing, Protocol::Time, &[12]),
     // The second byte stays the protocol. Where it is FE, that is never the bench's time number.
     (Front::Zero, Protocol::None, &[12]),
     (Front::Zero, Protocol::Extended, &[12]),
@@ -204,6 +215,9 @@ fn of_packets() -> BTreeSet<Outcome> {
     for (front, protocol, fates) in NO_COMMANDS {
         all.extend(fates.iter().map(|fate| Outcome::Packet(front, protocol, Kind::None, *fate, None)));
     }
+    let time = |preamble, fate| Outcome::Packet(Front::Nothing, Protocol::Time, Kind::Time(preamble), fate, None);
+    all.extend(preamble::taken().map(|preamble| time(preamble, 19)));
+    all.extend(preamble::THROWN_AWAY.map(|preamble| time(preamble, 16)));
     for (front, protocol) in COMMANDS {
         let outcome = |kind, fate, status| Outcome::Packet(front, protocol, kind, fate, status);
         all.extend([outcome(Kind::None, 11, None), outcome(Kind::Reply, 14, None)]);
@@ -255,7 +269,7 @@ pub fn of_units() -> BTreeSet<Outcome> {
         let outcome = |fate| Outcome::Packet(front, protocol, kind, fate, None);
         all.insert(outcome(1));
         let may_reply = match kind {
-            Kind::None | Kind::Reply => false,
+            Kind::None | Kind::Reply | Kind::Time(_) => false,
             Kind::UnusedType => true,
             Kind::Code(code) => wants_reply(code),
         };
@@ -310,6 +324,7 @@ impl fmt::Display for Outcome {
                 write!(f, "{protocol:?}, ")?;
                 match kind {
                     Kind::Code(code) => write!(f, "code {code:04b}")?,
+                    Kind::Time(preamble) => write!(f, "{preamble:?}")?,
                     other => write!(f, "{other:?}")?,
                 }
                 write!(f, ", fate {fate}")?;
@@ -327,9 +342,11 @@ mod tests {
     /// Counted by hand, code by code. RMAP: no instruction 2, replies 2, unused types 5, five unused codes with 4 each, the reads 9
     /// each, read-modify-write 12, four writes with 11 each, four verified writes with 12 each: 151. Plug-and-play: 2, 2, 5, 20, reads
     /// 6 and 10, read-modify-write 14, the seven other writes with 6 each, the one that fields take 15: 116. Behind the zero the same less
-    /// status 12, which each of the eleven used codes has: 105. No protocol, extended and unknown 2 each, time 4. Fronts that are not
-    /// ignored, with 2 each: the zero before no protocol and before four others, two zeros, another byte, another address.
-    const PACKETS: usize = 151 + 116 + 105 + 10 + 8 * 2;
+    /// status 12, which each of the eleven used codes has: 105. No protocol, extended, unknown and time 2 each. Fronts that are not
+    /// ignored, with 2 each: the zero before no protocol and before four others, two zeros, another byte, another address. Time packets
+    /// with the unit's number: taken with four counts of extra seconds, eight of extra fraction and two mission bits, and thrown away for
+    /// no second octet, two bits, two lengths, three extra octets of seconds, and another flaw with extra octets or without them.
+    const PACKETS: usize = 151 + 116 + 105 + 8 + 8 * 2 + 4 * 8 * 2 + 10;
 
     /// A reply too long, a Time-Code, ticks; three flaws of any record, one of two kinds, and three of each kind.
     #[test]
@@ -384,6 +401,15 @@ mod tests {
         let short = Outcome::packet(&[0xFE], "packet: 11 - 0 buffer 00:");
         assert_eq!(short, Some(Outcome::Packet(Nothing, Protocol::None, Kind::None, 11, Option::None)));
         assert_eq!(Outcome::packet(&[], "bad 7"), Option::None);
+        // Only a packet that the unit reads as a time packet has a preamble; 00 FE has none where FE is the time number.
+        let time = |packet: &[u8], line: &str| match Outcome::packet(packet, line) {
+            Some(Outcome::Packet(_, _, kind, ..)) => kind,
+            other => panic!("{other:?}"),
+        };
+        assert_eq!(time(&[0x43, 0xF0, 0x9F, 0x80], "7 16 - 0"), Kind::Time(Preamble::Bit(0)));
+        assert_eq!(time(&[0x43, 0xF0, 0x9F, 0x80], "7 12 - 0"), Kind::None);
+        assert_eq!(time(&[0x43, 0xF0, 0x9F, 0x80], "7 2 - 0"), Kind::None);
+        assert_eq!(time(&[0x00, 0xFE, 0x9F, 0x80], "7 16 - 0"), Kind::None);
     }
 
     #[test]
@@ -395,6 +421,10 @@ mod tests {
             "Zero before PlugAndPlay, code 0011, fate 20, status f1"
         );
         assert_eq!(text(&[0, 0xFE, 1, 0x4C], "7 12 - 0"), "Zero before Rmap, None, fate 12");
+        assert_eq!(
+            text(&[0x43, 0xF0, 0x9F, 0x05, 0, 0, 0, 7, 0, 0, 0, 0xFF, 0xA7], "7 19 - 0"),
+            "Time, Taken { seconds: 0, fraction: 1, mode: 1 }, fate 19"
+        );
     }
 
     #[test]

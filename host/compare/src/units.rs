@@ -133,8 +133,11 @@ fn say(out: &mut String, what: std::fmt::Arguments) {
 mod wrong_zeros;
 
 #[cfg(test)]
+#[path = "../../model/tests/paper/wrong_preambles.rs"]
+mod wrong_preambles;
+
+#[cfg(test)]
 mod tests {
-    use super::wrong_zeros::WRONG;
     use super::*;
     use crate::shortest::shortest;
 
@@ -227,6 +230,17 @@ mod tests {
         })
     }
 
+    /// The fewest lines where `rule`, which is told the unit's time number too, puts another packet in place of each.
+    fn shown_by_packets(rule: impl Fn(&[u8], u8) -> Vec<u8>) -> Vec<Line> {
+        shown(|desk, line, out| match line {
+            Line::Packet { link, room, eep, bytes } => {
+                let bytes = rule(bytes, desk.unit.time_number);
+                desk.run(&Line::Packet { link: *link, room: *room, eep: *eep, bytes }, out);
+            }
+            other => desk.run(other, out),
+        })
+    }
+
     /// Each shows by a Time-Code and what the unit holds then, and few lines in front.
     #[test]
     fn wrong_wraps() {
@@ -236,7 +250,7 @@ mod tests {
                     unit.elapsed.t = rule(before.elapsed.t);
                 }
             });
-            assert!(matches!(lines[..], [.., Line::TimeCode(_), Line::Holds]) && lines.len() < 9, "{name}: {lines:?}");
+            assert!(matches!(lines[..], [.., Line::TimeCode(_), Line::Holds]) && lines.len() < 12, "{name}: {lines:?}");
         }
     }
 
@@ -249,22 +263,26 @@ mod tests {
                     unit.elapsed = Time { t: full(before.elapsed.t, half), ..before.elapsed };
                 }
             });
-            assert!(matches!(lines[..], [.., Line::TimeCode(_), Line::Holds]) && lines.len() < 9, "{half}: {lines:?}");
+            assert!(matches!(lines[..], [.., Line::TimeCode(_), Line::Holds]) && lines.len() < 12, "{half}: {lines:?}");
         }
     }
 
     /// Wrong rules for the zero in front of plug-and-play: each shows by one packet, and few lines in front of it.
     #[test]
     fn wrong_zeros() {
-        for (name, rule) in WRONG {
-            let lines = shown(|desk, line, out| match line {
-                Line::Packet { link, room, eep, bytes } => {
-                    let bytes = rule(bytes, desk.unit.time_number);
-                    desk.run(&Line::Packet { link: *link, room: *room, eep: *eep, bytes }, out);
-                }
-                other => desk.run(other, out),
-            });
+        for (name, rule) in wrong_zeros::WRONG {
+            let lines = shown_by_packets(rule);
             assert!(matches!(lines[..], [.., Line::Packet { .. }]) && lines.len() < 5, "{name}: {lines:?}");
+        }
+    }
+
+    /// Wrong rules for the newer preamble: each shows by one packet, or by the time that it leaves, and few lines in front of it.
+    #[test]
+    fn wrong_preambles() {
+        for (name, rule) in wrong_preambles::WRONG {
+            let lines = shown_by_packets(|packet, time| wrong_preambles::taken_by(rule, packet, time));
+            let shown = matches!(lines[..], [.., Line::Packet { .. }] | [.., Line::Packet { .. }, Line::Holds]);
+            assert!(shown && lines.len() < 6, "{name}: {lines:?}");
         }
     }
 }

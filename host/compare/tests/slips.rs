@@ -1,5 +1,5 @@
-//! Programs that are the model with one slip: the comparison finds each, and shows it by a log that cannot be shorter. Slips at the wrap of
-//! the Time-Codes show in no log; the tests of `units` try them.
+//! Programs that are the model with one slip: the comparison finds each, and shows it by a log that cannot be shorter. Slips in the time
+//! itself show in no log; the tests of `units` try them.
 use compare::difference::Printed;
 use compare::run::{Tally, run};
 use std::sync::atomic::{AtomicBool, Ordering};
@@ -72,6 +72,22 @@ fn a_zero_that_is_not_ignored() {
         })
     });
     assert!(matches!(&records[..], [Record::Packet { bytes, .. }] if bytes[..] == [0, 0xFE, 3]), "{records:?}");
+}
+
+/// A receiver as it was before request 12 shows by one time packet with extra octets, which it throws away.
+#[test]
+fn a_receiver_without_extra_octets() {
+    let records = shown(|log| {
+        slipped(log, |record| {
+            if record[2] == 1 && record.len() > 7 + 12 && record[8] == 0xF0 {
+                record[7 + 2] = 0;
+            }
+        })
+    });
+    assert!(
+        matches!(&records[..], [Record::Packet { bytes, .. }] if bytes.len() > 12 && bytes[1] == 0xF0),
+        "{records:?}"
+    );
 }
 
 /// EEP taken for EOP shows in one packet.

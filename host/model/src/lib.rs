@@ -1,5 +1,5 @@
-//! A second implementation of the remote terminal of document 01, as requests 2 and 3 of document 02
-//! change it, written from the papers alone.
+//! A second implementation of the remote terminal of document 01, as requests 2, 3 and 12 of
+//! document 02 change it, written from the papers alone.
 //!
 //! One unit answers RMAP and plug-and-play commands and keeps the time. Each packet is first
 //! decided upon and only then acted on, so that a reply that does not fit (result 3) leaves

@@ -105,6 +105,7 @@ fn scene(chance: &mut Chance) -> Vec<Line> {
     for _ in 0..chance.below(80) {
         story.go_on();
     }
+    let time_number = story.ground.time;
     for record in story.records {
         match record {
             // Nothing else tells what a wrap finds and what it leaves.
@@ -113,7 +114,12 @@ fn scene(chance: &mut Chance) -> Vec<Line> {
             Record::Ticks(ticks) => lines.push(Line::Ticks(ticks)),
             Record::Packet { link, eep, bytes } if bytes.len() <= PACKET => {
                 let room = room(&bytes, chance);
+                let sets_time = bytes.get(1) == Some(&time_number);
                 lines.push(Line::Packet { link, room, eep, bytes });
+                // Its line shows the fate, and not the time.
+                if sets_time {
+                    lines.push(Line::Holds);
+                }
             }
             _ => continue,
         }

@@ -36,38 +36,38 @@ impl Story {
     pub fn go_on(&mut self) {
         let chance = &mut self.chance;
         let whole = chance.one_in(2);
-        match chance.below(35) {
-            0..=11 => {
+        match chance.below(38) {
+            0..=13 => {
                 let sender = &self.senders[chance.below(self.senders.len())];
                 let command = memory::command(sender, &self.ground, chance);
                 self.send(command, whole);
             }
-            12..=15 => {
+            14..=17 => {
                 let sender = self.ownership.sender(&self.senders, chance);
                 let swap = self.ownership.swap(&sender, whole, chance);
                 self.send(swap, whole);
             }
-            16..=26 => {
+            18..=28 => {
                 let sender = self.ownership.sender(&self.senders, chance);
                 let command = fields::other(&sender, chance);
                 self.send(command, whole);
             }
-            27 => {
+            29 | 30 => {
                 let link = link(&self.ground, chance);
                 let packet = time::packet(self.ground.time, link, whole, chance);
                 self.add(packet);
             }
-            28 => match chance.below(6) {
+            31 => match chance.below(6) {
                 0 | 1 => time::wrap(self.ground.time, self.senders[0].link, &mut self.code, &mut self.records, chance),
                 2 => time::oscillator(&mut self.code, &mut self.records, chance),
                 _ => time::codes(&mut self.code, &mut self.records, chance),
             },
-            29 => self.records.push(time::ticks(chance)),
-            30 | 31 => {
+            32 => self.records.push(time::ticks(chance)),
+            33 | 34 => {
                 let packet = noise(&self.ground, chance);
                 self.add(packet);
             }
-            32 => {
+            35 => {
                 let link = link(&self.ground, chance);
                 self.records.push(zero::noise(link, chance));
             }

@@ -41,10 +41,20 @@ impl Dice {
         Build { reply_address, rest, initiator: 0x66 + self.below(2) as u8, ..base }
     }
 
+    /// Mostly with as many octets as its second preamble octet says, of which all are mostly zero.
+    fn time_packet(&mut self) -> Vec<u8> {
+        let second = self.byte() & self.one_of(&[0xFF, 0b0111_1101]);
+        let mut body = vec![0x43, 0xF0, 0x9F, second];
+        let extra = usize::from(second >> 5 & 3) + usize::from(second >> 2 & 7);
+        let size = 11 + extra + self.one_of(&[0, 0, 0, 1]);
+        body.resize(size, self.one_of(&[0, 0, 1]));
+        sealed(&body)
+    }
+
     fn packet(&mut self) -> Vec<u8> {
         let mut packet = match self.below(5) {
             0 => (0..self.below(30)).map(|_| self.byte()).collect(),
-            1 => sealed(&[0x43, 0xF0, 0x9F, self.below(3) as u8, 0, 0, 0, 9, 0, 0, self.byte()]),
+            1 => self.time_packet(),
             _ => self.command().packet(),
         };
         if self.below(8) == 0 && !packet.is_empty() {

@@ -1,9 +1,10 @@
 -- `packets::time::read_time` meets its contract: a time packet is taken, and anything else thrown away.
 use mathlib.Core.Path.{sym, _∙_}
+use native.Mathlib.Omega.{arith}
 use borrow.Author.Tests.{not-true, not-false}
 use denote.Ref.{now}
 use Rattle.packets.specs.Time.{readTime}
-use Rattle.packets.proofs.TimeLaws.{time-twelve}
+use Rattle.packets.proofs.TimeLaws.{time-passed}
 use borrow.Author.Needs.{needs}
 use Rattle.packets.proofs.time.read_time.Statement.{statement}
 use Rattle.packets.proofs.time.read_time.Tie as tie
@@ -18,7 +19,8 @@ returns c = rw (sym (c .before .is-time-packet .ensures) ∙ not-true _ (c .if1 
 time-at-requires : tie.Need-time-at-requires
 time-at-requires c κs =
     let a = c .before .before .before .args in
-    time-twelve (now (a .packet)) (a .end) (a .logical) (a .number) (sym (c .before .is-time-packet .ensures) ∙ not-false _ (c .if1 .left))
+    let passed = time-passed (now (a .packet)) (a .end) (a .logical) (a .number) (sym (c .before .is-time-packet .ensures) ∙ not-false _ (c .if1 .left)) in
+    omega (arith, passed .size)
 
 returns-2 : tie.Need-returns-2
 unfolding readTime
