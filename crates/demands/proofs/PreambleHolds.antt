@@ -3,7 +3,7 @@ use mathlib.Core.Path.{_≡_, refl, sym, ap, _∙_}
 use mathlib.Core.Bool.{Bool, true, false, cond, _&&_, and-true, and-false}
 use mathlib.Core.Logic.{_⊎_, inl, inr, ⊎-elim, _≢_}
 use mathlib.Core.List.{List}
-use Prim.Native.Nat.{ℕ, _+_, _-_, _≤_}
+use Prim.Native.Nat.{ℕ, _+_, _-_, _%_, _≤_}
 use native.Mathlib.Omega.{arith}
 use native.Mathlib.Decide.{ℕ-discrete, decLe}
 use native.Mathlib.Nat.{lt-of-not-le}
@@ -13,7 +13,7 @@ use Rattle.octets.specs.Places.{part}
 use Rattle.octets.specs.Numbers.{number, Digits}
 use Rattle.octets.proofs.NumberLaws.{digits-at}
 use Rattle.packets.specs.Reading.{bare, timePacket, readPacket}
-use Rattle.packets.specs.Time.{whenNumber, timePacketOf, octetBits, addedSeconds, addedFraction, readTime}
+use Rattle.packets.specs.Time.{whenNumber, timePacketOf, addedSeconds, addedFraction, readTime}
 use Rattle.packets.specs.declared.reading.End.{End}
 use Rattle.packets.specs.declared.reading.Reading.{Reading}
 use Rattle.packets.specs.declared.reading.Reading.the-variants.{Refused, Time, Command}
@@ -30,9 +30,9 @@ use Rattle.unit.specs.Usable.{usable}
 use Rattle.unit.specs.Given.{Arrived, asRead, Lent}
 use Rattle.unit.specs.Judge.{timeRuling, judged, isLink}
 use Rattle.unit.specs.Fate.{fateNumber}
-use Rattle.unit.specs.Clock.{afterTime}
+use Rattle.unit.specs.Clock.{afterTime, afterCode}
 use Rattle.unit.specs.Act.{withClock, countedUnit}
-use Rattle.unit.specs.Calls.{Outcome, withoutReply, leaving, doneBy, takePacket}
+use Rattle.unit.specs.Calls.{Outcome, withoutReply, leaving, doneBy, takePacket, takeTimeCode}
 use Rattle.unit.specs.declared.fate.Fate.the-variants.{TimeTaken}
 use Rattle.unit.specs.declared.clock.Elapsed.{Elapsed}
 use Rattle.unit.specs.declared.clock.Waiting.the-variants.{Value}
@@ -40,9 +40,10 @@ use Rattle.unit.specs.declared.unit.Unit.{Unit as TheUnit}
 use Rattle.unit.proofs.FateLaws.{unread-number}
 use Rattle.unit.proofs.UsableLaws.{number-fits, alone}
 use Rattle.unit.proofs.CommandLaws.{packets-are, command-fate}
+use Rattle.demands.proofs.ZeroHolds.{by-second-byte}
 use Rattle.demands.specs.Terminal.{ours, readOf, pathIn}
 use Rattle.demands.specs.Seconds.{etOf}
-use Rattle.demands.specs.Preamble.{numberGot, wasRead, takeBy, reading, before, ReaderAlone, TwelveAsBefore, NeverWrong, WasThrownAway, MadeOf, Sets, MadeIsTaken, TakenIsMade, Adds, IsGreatest, GreatestTick}
+use Rattle.demands.specs.Preamble.{numberGot, octetIn, lastBit, bytesMade, MadeOf, Sets, MadeIsTaken, TakenIsMade, ElseSixteen, IsGreatest, GreatestTick, GreatestAtWrap, wasRead, takeBy, reading, before, ReaderAlone, TwelveAsBefore, Adds, OldAsBefore, WasThrownAway, NeverWrong}
 
 -- ---- terminals that differ by their readers of time packets alone
 
@@ -63,7 +64,7 @@ module _ (u : TheUnit) (p : Arrived) (lent : Lent) where
       go (Command h) e = refl
       go Time e = both (usable u (length (lent .memory))) (isLink u (p .link)) refl refl e
 
-pub reader-alone : ReaderAlone ours
+pub reader-alone : ReaderAlone
 reader-alone u p lent = ours-is u p lent
 
 -- ---- the receiver of before
@@ -79,7 +80,7 @@ module _ (p : List ℕ) (end : End) (logical n : ℕ) where
     where
       other : (getD p 3 0 ≡ 0 → ⊥) → (getD p 3 0 ≡ 1 → ⊥) → Passed p end logical n → ⊥
       other x y passed =
-          omega (arith, size, passed .size, passed .first, passed .sixth, octet-fields (getD p 3 0) (digits-at 256 p 3 (omega arith) bytes), x, y)
+          omega (arith, size, passed .size, passed .bit-0, passed .bit-6, octet-fields (getD p 3 0) (digits-at 256 p 3 (omega arith) bytes), x, y)
 
       go : Dec (getD p 3 0 ≡ 0) → Dec (getD p 3 0 ≡ 1) → readTime p end logical n ≡ wasRead p end logical n
       go (yes e) d = rw e (simp and-true)
@@ -118,13 +119,24 @@ module _ (u : TheUnit) (p : Arrived) (lent : Lent) where
 pub twelve-as-before : TwelveAsBefore ours
 twelve-as-before u p lent bytes size = alike u p lent (λ e. twelve (p .packet) (p .end) (u .logical) (u .number) bytes size)
 
-pub never-wrong : NeverWrong ours
-never-wrong u p lent bytes taken = alike u p lent (λ e. go (ℕ-discrete (length (p .packet)) 12) e)
+took-as-ours : (u : TheUnit) (p : Arrived) (lent : Lent) → Digits 256 (p .packet) → numberGot (before .packet u p lent) ≡ 19 → takePacket u p lent ≡ before .packet u p lent
+took-as-ours u p lent bytes taken = alike u p lent (λ e. go (ℕ-discrete (length (p .packet)) 12) e)
   where
     go : Dec (length (p .packet) ≡ 12) → readOf u p .reading ≡ Time
         → readTime (p .packet) (p .end) (u .logical) (u .number) ≡ wasRead (p .packet) (p .end) (u .logical) (u .number)
     go (yes size) e = twelve (p .packet) (p .end) (u .logical) (u .number) bytes size
     go (no other) e = absurd (took-twelve u p lent e taken other)
+
+pub old-as-before : OldAsBefore ours
+old-as-before u p lent bytes none = alike u p lent (λ e. go (ℕ-discrete (length (p .packet)) 12))
+  where
+    go : Dec (length (p .packet) ≡ 12) → readTime (p .packet) (p .end) (u .logical) (u .number) ≡ wasRead (p .packet) (p .end) (u .logical) (u .number)
+    go (yes size) = twelve (p .packet) (p .end) (u .logical) (u .number) bytes size
+    go (no other) =
+        let seconds : 1 ≤ addedSeconds (p .packet) → ⊥ = λ some. none (inl some) in
+        let fraction : 1 ≤ addedFraction (p .packet) → ⊥ = λ some. none (inr some) in
+        thrown-away (p .packet) (p .end) (u .logical) (u .number) (λ passed. other (omega (arith, passed .size, seconds, fraction)))
+        ∙ sym (was-longer (p .packet) (p .end) (u .logical) (u .number) other)
 
 -- a second octet that adds something is neither 00 nor 01, and it is there
 adds-octet : (p : Arrived) → Adds p → 2 ≤ getD (p .packet) 3 0
@@ -148,9 +160,19 @@ was-thrown-away u p lent otherwise adds second works there =
 
 -- ---- what is taken
 
+-- bytes in their order are those of `packets`
+bit-is : (w : When) → lastBit w ≡ whenNumber w
+bit-is AtWrap = refl
+bit-is AtOnce = refl
+
+made-bytes : (address n : ℕ) (time : TheTime) (zeros : ℕ) (cut : List ℕ) → bytesMade address n time zeros cut ≡ timePacketOf address n time zeros cut
+unfolding timePacketOf
+made-bytes address n time zeros cut = rw (bit-is (time .when))
+
 pub made-is-taken : MadeIsTaken ours
 unfolding takePacket judged countedFor timePacketOf
-made-is-taken u p lent time zeros cut works there (address, addressed, known, small, few, fewer, bytes, eop) =
+made-is-taken u p lent time zeros cut works there (address, addressed, known, small, few, fewer, made, eop) =
+    let bytes = made ∙ made-bytes address (u .number) time zeros cut in
     let fits = number-fits u (alone u (length (lent .memory)) works) in
     let third : getD (p .packet) 2 0 ≡ time .epoch = ap (λ (b : List ℕ). getD b 2 0) bytes in
     let bare-is : bare (p .packet) ≡ p .packet =
@@ -187,7 +209,7 @@ taken-is-made u p lent bytes =
     let few : addedSeconds (p .packet) ≤ 3 = omega arith in
     let fewer : length cut ≤ 7 = omega (arith, length-cut (p .packet) bytes (p .end) (u .logical) (u .number) passed) in
     let below = taken-below (p .packet) (p .end) (u .logical) (u .number) t bytes w in
-    (t, addedSeconds (p .packet), cut, (getD (p .packet) 0 0, passed .address, known, below, few, fewer, rw says at made, passed .eop), (refl, refl, refl, (refl, refl))))
+    (t, addedSeconds (p .packet), cut, (getD (p .packet) 0 0, passed .address, known, below, few, fewer, (rw says at made) ∙ sym (made-bytes (getD (p .packet) 0 0) (u .number) t (addedSeconds (p .packet)) cut), passed .eop), (refl, refl, refl, (refl, refl))))
 
 pub greatest-tick : GreatestTick ours
 unfolding afterTime
@@ -201,14 +223,31 @@ greatest-tick u p lent bytes =
       tick-not-after (p .packet) bytes (p .end) (u .logical) (u .number) passed,
       next-tick-after (p .packet) bytes (p .end) (u .logical) (u .number) passed,
     ) in
-    go t (t .when) refl (ap (λ (s : TheTime). whenNumber (s .when)) (sym says) ∙ when-told (p .packet)) most)
+    let told = when-told (p .packet) in
+    go t (t .when) refl (ap (λ (s : TheTime). whenNumber (s .when)) (sym says) ∙ omega (arith, told)) most)
   where
     Shown : Outcome → Type 0
     Shown o =
-        (octetBits 7 7 (getD (p .packet) 3 0) ≡ 1 → IsGreatest p (etOf (o .answer .unit)))
-        × (octetBits 7 7 (getD (p .packet) 3 0) ≡ 0 → (w : Elapsed) × (o .answer .unit .clock .waiting ≡ Value w) × IsGreatest p (w .value))
+        (octetIn p % 2 ≡ 1 → IsGreatest p (etOf (o .answer .unit)))
+        × (octetIn p % 2 ≡ 0 → (w : Elapsed) × (o .answer .unit .clock .waiting ≡ Value w) × IsGreatest p (w .value))
 
-    go : (t : TheTime) (when : When) → t .when ≡ when → whenNumber when ≡ octetBits 7 7 (getD (p .packet) 3 0) → IsGreatest p (t .value)
+    go : (t : TheTime) (when : When) → t .when ≡ when → whenNumber when ≡ octetIn p % 2 → IsGreatest p (t .value)
         → Shown (leaving (withoutReply TimeTaken (countedUnit TimeTaken (withClock u (afterTime (u .clock) t)))) lent)
     go t AtOnce e bit most = rw e (λ one. most, λ none. absurd (omega (arith, bit, none)))
     go t AtWrap e bit most = rw e (λ one. absurd (omega (arith, bit, one)), λ none. (record { value = t .value; epoch = t .epoch }, refl, most))
+
+pub greatest-at-wrap : GreatestAtWrap ours
+unfolding takeTimeCode afterCode
+greatest-at-wrap u p lent byte bytes taken later works wraps =
+    let waits = greatest-tick u p lent bytes taken .1 later in
+    rw (works, wraps .0, wraps .1, waits .1) (waits .2)
+
+pub else-sixteen : ElseSixteen ours
+else-sixteen u p lent bytes otherwise two second works there none =
+    ⊎-elim (λ e. e) (λ e. let is = taken-is-made u p lent bytes e in absurd (none (is .0) (is .1) (is .2) (is .3))) (by-second-byte u p lent otherwise two works there .1 second)
+
+pub never-wrong : NeverWrong ours
+never-wrong = (
+  took-as-ours,
+  λ u p lent bytes taken. let same = took-as-ours u p lent bytes taken in rw same at (greatest-tick u p lent bytes (ap numberGot same ∙ taken)),
+)

@@ -43,7 +43,7 @@ told t p = t .packet (unit 0) (arrived p 1) (lent memory buffer)
 abbrev device : Outcome → ℕ
 device o = o .answer .unit .owner .device
 
-abbrev pub fate : Outcome → ℕ
+abbrev fate : Outcome → ℕ
 fate o = fateNumber (o .answer .fate)
 
 abbrev byte : Outcome → ℕ

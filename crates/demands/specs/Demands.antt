@@ -10,7 +10,7 @@ use Rattle.demands.specs.Counts.{CountersAreHistory, LowCountNothing}
 use Rattle.demands.specs.Names.{RowsKept, MissingRefused, MissingIsF1, ObeyedInWindow}
 use Rattle.demands.specs.Seconds.{OthersLeaveTime, WrapMovesHalf, OneIsNearest, TicksAreSeconds, OneSecond, OneSecondInOrder, SomeTurn}
 use Rattle.demands.specs.Zero.{ReadSo, AsWithoutIt, OthersAsBefore, BySecondByte, OnlyAddressed, TakenOnce, WasRefused, NoneWithZero}
-use Rattle.demands.specs.Preamble.{MadeIsTaken, TakenIsMade, GreatestTick, ReaderAlone, TwelveAsBefore, NeverWrong, WasThrownAway}
+use Rattle.demands.specs.Preamble.{MadeIsTaken, TakenIsMade, ElseSixteen, GreatestTick, GreatestAtWrap, ReaderAlone, TwelveAsBefore, OldAsBefore, WasThrownAway, NeverWrong}
 
 -- 1. Any packet, any end marker, any lent memory: the terminal answers, never strays, always comes back; every refusal has its number, its
 -- reply and a fixed effect on memory, unit and reply buffer. (It checks for itself: `OctetsAskNothing`, `PacketsAskNothing`, `UnitAsksNothing`, in Outcomes.)
@@ -41,4 +41,5 @@ abbrev pub ZeroIgnored : Terminal → Type 0
 ZeroIgnored t = ReadSo × AsWithoutIt t × OthersAsBefore t × BySecondByte t × OnlyAddressed t × TakenOnce t × WasRefused × NoneWithZero
 
 abbrev pub PreambleAccepted : Terminal → Type 0
-PreambleAccepted t = MadeIsTaken t × TakenIsMade t × GreatestTick t × ReaderAlone t × TwelveAsBefore t × NeverWrong t × WasThrownAway
+PreambleAccepted t =
+    MadeIsTaken t × TakenIsMade t × ElseSixteen t × GreatestTick t × GreatestAtWrap t × ReaderAlone × TwelveAsBefore t × OldAsBefore t × WasThrownAway × NeverWrong t

@@ -9,7 +9,7 @@ use Rattle.octets.specs.Places.{part}
 use Rattle.octets.specs.Numbers.{number}
 use Rattle.octets.specs.Crc.{crc}
 use Rattle.packets.specs.Reading.{isEop}
-use Rattle.packets.specs.Time.{whenOf, preambleBits, addedSeconds, addedFraction, timeAt, readTime}
+use Rattle.packets.specs.Time.{whenOf, readTime}
 use Rattle.packets.specs.Reply.{replyLength, replied}
 use Rattle.packets.specs.declared.header.Header.{Header}
 use Rattle.packets.specs.declared.path.Path.{Path}
@@ -168,35 +168,43 @@ swapsAlone = faking (λ u p lent. cond (eqb (getD (p .packet) 3 0) 0x5C) (takePa
 abbrev pub takesAnyZero : Terminal
 takesAnyZero = faking (λ u p lent. takeRead u (withBytes p (cond (eqb (getD (p .packet) 0 1) 0x00) (drop 1 (p .packet)) (p .packet))) lent)
 
+-- How many octets a time packet tells of, of seconds and of fraction, and what it says where its T begins at a place; in numerals, as in Preamble.
+abbrev pub ofSeconds : List ℕ → ℕ
+ofSeconds p = getD p 3 0 / 32 % 4
+
+abbrev pub ofFraction : List ℕ → ℕ
+ofFraction p = getD p 3 0 / 4 % 8
+
+abbrev pub timeFrom : ℕ → List ℕ → TheTime
+timeFrom at p = record { epoch = getD p 2 0; when = whenOf (getD p 3 0 % 2); value = number (part at 7 p) }
+
 -- It takes time packets by the newer preamble, but rounds to the nearest tick instead of cutting off: by the first octet that is cut off.
 abbrev pub rounded : List ℕ → TimeReading → TimeReading
 rounded p ThrownAway = ThrownAway
 rounded p (Taken t) = Taken (record {
   epoch = t .epoch;
   when = t .when;
-  value = t .value + getD (part (11 + addedSeconds p) (addedFraction p) p) 0 0 / 0x80;
+  value = t .value + getD (part (11 + ofSeconds p) (ofFraction p) p) 0 0 / 0x80;
 })
 
 abbrev pub roundsTime : Terminal
 roundsTime = reading (λ p end logical timeNumber. rounded p (readTime p end logical timeNumber))
 
--- It looks at all but the octets of seconds that were added, and so drops what they hold.
+-- What is right of a time packet, its length and its octets of seconds aside.
 abbrev pub soundBut : List ℕ → End → ℕ → ℕ → Bool
 soundBut p end logical timeNumber =
     isEop end && (eqb (getD p 0 0) logical || eqb (getD p 0 0) 0xFE) && eqb (getD p 1 0) timeNumber && (eqb (getD p 2 0) 0x9F || eqb (getD p 2 0) 0xAF)
-    && (eqb (preambleBits 0 0 p) 0 && eqb (preambleBits 6 6 p) 0) && eqb (crc p) 0
+    && (eqb (getD p 3 0 / 128 % 2) 0 && eqb (getD p 3 0 / 2 % 2) 0) && eqb (crc p) 0
 
+-- It does not look at the octets of seconds that were added, and so drops what they hold.
 abbrev pub dropsSeconds : Terminal
 dropsSeconds = reading (λ p end logical timeNumber.
-    cond (eqb (length p) (12 + addedSeconds p + addedFraction p) && soundBut p end logical timeNumber) (Taken (timeAt p)) ThrownAway)
+    cond (eqb (length p) (12 + ofSeconds p + ofFraction p) && soundBut p end logical timeNumber) (Taken (timeFrom (4 + ofSeconds p) p)) ThrownAway)
 
 -- It takes twelve bytes, whatever their second octet adds, as if nothing were added.
-abbrev pub asTwelve : List ℕ → TheTime
-asTwelve p = record { epoch = getD p 2 0; when = whenOf (preambleBits 7 7 p); value = number (part 4 7 p) }
-
 abbrev pub countsNothing : Terminal
 countsNothing = reading (λ p end logical timeNumber.
-    cond (eqb (length p) 12 && soundBut p end logical timeNumber) (Taken (asTwelve p)) (readTime p end logical timeNumber))
+    cond (eqb (length p) 12 && soundBut p end logical timeNumber) (Taken (timeFrom 4 p)) (readTime p end logical timeNumber))
 
 -- ---- which demand shuts out which
 

@@ -1,26 +1,31 @@
 -- The newer preamble of a time packet (document 02, 12; 004, 'Draft P-Field format'): which packets are taken, that ET is the greatest tick not after the time sent,
--- and what the receiver of before makes of packets, theirs and the newer ones.
+-- and what the receiver of before makes of packets, its own and the newer ones.
+--
+-- Bytes and bits are taken apart and put together in numerals here, and not by the words of `packets`: these and the code could slip together, and what is said here has to
+-- show it.
 use mathlib.Core.Path.{_≡_}
 use mathlib.Core.Bool.{Bool, true, cond, _&&_, _||_}
 use mathlib.Core.Logic.{_⊎_}
-use mathlib.Core.List.{List}
-use Prim.Native.Nat.{ℕ, _+_, _-_, _*_, _^_, _<_, _≤_}
+use mathlib.Core.List.{List, [], _∷_, _++_}
+use Prim.Native.Nat.{ℕ, _+_, _-_, _*_, _/_, _%_, _^_, _<_, _≤_}
 use lib.Dec.{eqb}
-use lib.ListN.{length, getD}
+use lib.ListN.{length, getD, replicate}
 use Rattle.octets.specs.Places.{part}
-use Rattle.octets.specs.Numbers.{number, Digits}
-use Rattle.octets.specs.Crc.{crc}
+use Rattle.octets.specs.Numbers.{number, bytesOf, Digits}
+use Rattle.octets.specs.Crc.{crc, withCrc}
 use Rattle.packets.specs.Reading.{isEop}
-use Rattle.packets.specs.Time.{whenOf, timePacketOf, octetBits, readTime}
+use Rattle.packets.specs.Time.{whenOf, readTime}
 use Rattle.packets.specs.declared.reading.End.{End}
 use Rattle.packets.specs.declared.reading.End.the-variants.{Eop}
 use Rattle.packets.specs.declared.reading.Reading.{Reading}
 use Rattle.packets.specs.declared.reading.Reading.the-variants.{Refused, Time, Command}
+use Rattle.packets.specs.declared.time.When.{When}
+use Rattle.packets.specs.declared.time.When.the-variants.{AtWrap, AtOnce}
 use Rattle.packets.specs.declared.time.Time.{Time as TheTime}
 use Rattle.packets.specs.declared.time.TimeReading.{TimeReading}
 use Rattle.packets.specs.declared.time.TimeReading.the-variants.{ThrownAway, Taken}
 use Rattle.unit.specs.Fate.{fateNumber}
-use Rattle.unit.specs.Usable.{usable}
+use Rattle.unit.specs.Usable.{usable, usableUnit}
 use Rattle.unit.specs.Clock.{afterTime}
 use Rattle.unit.specs.Act.{withClock}
 use Rattle.unit.specs.Given.{Arrived, asRead, Lent}
@@ -29,16 +34,30 @@ use Rattle.unit.specs.Calls.{Outcome, doneBy, takePacket, takeTimeCode, takeTic
 use Rattle.unit.specs.declared.clock.Elapsed.{Elapsed}
 use Rattle.unit.specs.declared.clock.Waiting.the-variants.{Value}
 use Rattle.unit.specs.declared.unit.Unit.{Unit as TheUnit}
-use Rattle.demands.specs.Terminal.{Terminal, readOf, pathIn}
+use Rattle.demands.specs.Terminal.{Terminal, ours, readOf, pathIn}
 use Rattle.demands.specs.Refusals.{countedAs, NoReply, OnlyCounted}
-use Rattle.demands.specs.Seconds.{etOf}
+use Rattle.demands.specs.Seconds.{etOf, Wraps}
 use Rattle.demands.specs.Zero.{BeginsOtherwise}
 
 -- The number that a packet gets.
 abbrev pub numberGot : Outcome → ℕ
 numberGot o = fateNumber (o .answer .fate)
 
+-- The second octet of the preamble, as it arrived. The weights of its bits, from 004's bit 0 on: 128, 64, 32, 16, 8, 4, 2, 1.
+abbrev pub octetIn : Arrived → ℕ
+octetIn p = getD (p .packet) 3 0
+
 -- ---- which packets are taken
+
+-- The mission's bit, the last: 1 at once, 0 at the wrap.
+abbrev pub lastBit : When → ℕ
+lastBit AtWrap = 0
+lastBit AtOnce = 1
+
+-- The bytes of a time packet in their order: address, number, epoch code, the second octet, so many zeros, T in seven bytes, what is cut off, and the CRC of all these.
+abbrev pub bytesMade : ℕ → ℕ → TheTime → ℕ → List ℕ → List ℕ
+bytesMade address timeNumber time zeros cut =
+    withCrc ((address ∷ timeNumber ∷ time .epoch ∷ (zeros * 32 + length cut * 4 + lastBit (time .when)) ∷ []) ++ replicate zeros 0x00 ++ bytesOf 7 (time .value) ++ cut)
 
 -- What arrived is a time packet to the unit, made of these parts: to its address or to FE, with its time number, of an epoch that is known; up to three octets of
 -- seconds are added, all 0, and up to seven of fraction, whatever they are; and it ended by EOP.
@@ -50,7 +69,7 @@ MadeOf u p time zeros cut =
     × (time .value < 2 ^ 56)
     × (zeros ≤ 3)
     × (length cut ≤ 7)
-    × (p .packet ≡ timePacketOf address (u .number) time zeros cut)
+    × (p .packet ≡ bytesMade address (u .number) time zeros cut)
     × (p .end ≡ Eop)
 
 -- It gets 19, and sets the time.
@@ -70,6 +89,13 @@ TakenIsMade t =
     (u : TheUnit) (p : Arrived) (lent : Lent) → Digits 256 (p .packet) → numberGot (t .packet u p lent) ≡ 19
     → (time : TheTime) × (zeros : ℕ) × (cut : List ℕ) × MadeOf u p time zeros cut × Sets u lent time (t .packet u p lent)
 
+-- Else 16: so of every other packet of bytes with the unit's time number.
+abbrev pub ElseSixteen : Terminal → Type 0
+ElseSixteen t =
+    (u : TheUnit) (p : Arrived) (lent : Lent) → Digits 256 (p .packet) → BeginsOtherwise p → 2 ≤ length (p .packet) → getD (p .packet) 1 0 ≡ u .number
+    → usable u (length (lent .memory)) ≡ true → isLink u (p .link) ≡ true
+    → ((time : TheTime) (zeros : ℕ) (cut : List ℕ) → MadeOf u p time zeros cut → ⊥) → numberGot (t .packet u p lent) ≡ 16
+
 -- ---- the greatest tick
 
 -- The time sent, as a whole number: all octets between the preamble and the CRC. So many of its units are a tick of ET; each octet of fraction that was added makes them
@@ -78,7 +104,7 @@ abbrev pub sentIn : Arrived → ℕ
 sentIn p = number (part 4 (length (p .packet) - 5) (p .packet))
 
 abbrev pub perTick : Arrived → ℕ
-perTick p = 256 ^ octetBits 3 5 (getD (p .packet) 3 0)
+perTick p = 256 ^ (octetIn p / 4 % 8)
 
 -- So many ticks are not after the time sent, and one more is.
 abbrev pub IsGreatest : Arrived → ℕ → Type 0
@@ -88,9 +114,15 @@ IsGreatest p ticks = (ticks * perTick p ≤ sentIn p) × (sentIn p < (ticks + 1)
 abbrev pub GreatestTick : Terminal → Type 0
 GreatestTick t =
     (u : TheUnit) (p : Arrived) (lent : Lent) → Digits 256 (p .packet) → numberGot (t .packet u p lent) ≡ 19
-    → (octetBits 7 7 (getD (p .packet) 3 0) ≡ 1 → IsGreatest p (etOf (t .packet u p lent .answer .unit)))
-    × (octetBits 7 7 (getD (p .packet) 3 0) ≡ 0
-    → (w : Elapsed) × (t .packet u p lent .answer .unit .clock .waiting ≡ Value w) × IsGreatest p (w .value))
+    → (octetIn p % 2 ≡ 1 → IsGreatest p (etOf (t .packet u p lent .answer .unit)))
+    × (octetIn p % 2 ≡ 0 → (w : Elapsed) × (t .packet u p lent .answer .unit .clock .waiting ≡ Value w) × IsGreatest p (w .value))
+
+-- What waits is ET behind the next wrap, where that comes before another packet.
+abbrev pub GreatestAtWrap : Terminal → Type 0
+GreatestAtWrap t =
+    (u : TheUnit) (p : Arrived) (lent : Lent) (byte : ℕ) → Digits 256 (p .packet) → numberGot (t .packet u p lent) ≡ 19 → octetIn p % 2 ≡ 0
+    → usableUnit (t .packet u p lent .answer .unit) ≡ true → Wraps (t .packet u p lent .answer .unit) byte
+    → IsGreatest p (etOf (t .timeCode (t .packet u p lent .answer .unit) byte .unit))
 
 -- ---- the receiver of before
 
@@ -123,26 +155,33 @@ reading reads = record { packet = λ u p lent. takeBy reads (readOf u p .reading
 abbrev pub before : Terminal
 before = reading wasRead
 
--- The reader is all that it has of its own: with ours it would be ours.
-abbrev pub ReaderAlone : Terminal → Type 0
-ReaderAlone t = (u : TheUnit) (p : Arrived) (lent : Lent) → reading readTime .packet u p lent ≡ t .packet u p lent
+-- The reader is all that it has of its own: with ours in its place it is ours.
+abbrev pub ReaderAlone : Type 0
+ReaderAlone = (u : TheUnit) (p : Arrived) (lent : Lent) → reading readTime .packet u p lent ≡ ours .packet u p lent
 
 -- Every packet of 12 bytes, whatever it is, has in every part the outcome that it had before: so all time packets of the old kind, taken or thrown away.
 abbrev pub TwelveAsBefore : Terminal → Type 0
 TwelveAsBefore t =
     (u : TheUnit) (p : Arrived) (lent : Lent) → Digits 256 (p .packet) → length (p .packet) ≡ 12 → t .packet u p lent ≡ before .packet u p lent
 
--- And so has every packet that was taken before: the old receiver shows no time but the one that ours shows.
-abbrev pub NeverWrong : Terminal → Type 0
-NeverWrong t =
-    (u : TheUnit) (p : Arrived) (lent : Lent) → Digits 256 (p .packet) → numberGot (before .packet u p lent) ≡ 19 → t .packet u p lent ≡ before .packet u p lent
-
--- Given a packet with octets added, by its second preamble octet, the old receiver throws it away: 16, counted, and nothing else changes.
+-- Octets are added, by the second octet of the preamble.
 abbrev pub Adds : Arrived → Type 0
-Adds p = (1 ≤ octetBits 1 2 (getD (p .packet) 3 0)) ⊎ (1 ≤ octetBits 3 5 (getD (p .packet) 3 0))
+Adds p = (1 ≤ octetIn p / 32 % 4) ⊎ (1 ≤ octetIn p / 4 % 8)
 
+-- And so has every packet, of any length, that adds none.
+abbrev pub OldAsBefore : Terminal → Type 0
+OldAsBefore t =
+    (u : TheUnit) (p : Arrived) (lent : Lent) → Digits 256 (p .packet) → (Adds p → ⊥) → t .packet u p lent ≡ before .packet u p lent
+
+-- Given a packet that adds some, the receiver of before throws it away: 16, counted, and nothing else changes.
 abbrev pub WasThrownAway : Type 0
 WasThrownAway =
     (u : TheUnit) (p : Arrived) (lent : Lent) → BeginsOtherwise p → Adds p → getD (p .packet) 1 0 ≡ u .number
     → usable u (length (lent .memory)) ≡ true → isLink u (p .link) ≡ true
     → (numberGot (before .packet u p lent) ≡ 16) × OnlyCounted 16 u lent (before .packet u p lent)
+
+-- So it never shows a wrong time: what it takes has, in every part, the outcome that ours has, and what it shows is the greatest tick not after the time sent.
+abbrev pub NeverWrong : Terminal → Type 0
+NeverWrong t =
+    ((u : TheUnit) (p : Arrived) (lent : Lent) → Digits 256 (p .packet) → numberGot (before .packet u p lent) ≡ 19 → t .packet u p lent ≡ before .packet u p lent)
+    × GreatestTick before

@@ -1,11 +1,13 @@
 -- Worked examples, computed by the definitions: a definition that no longer says what they say is refused here. Those of the papers
 -- name their place; the others were worked out by hand.
 use mathlib.Core.Path.{_≡_, refl}
-use mathlib.Core.Bool.{Bool, true, false}
+use mathlib.Core.Bool.{Bool, true, false, cond}
 use mathlib.Core.List.{List, [], _∷_, _++_, map}
-use Prim.Native.Nat.{ℕ, _-_, _^_}
+use Prim.Native.Nat.{ℕ, _+_, _-_, _/_, _%_, _^_}
+use lib.Dec.{eqb}
 use lib.ListN.{replicate, take}
-use Rattle.octets.specs.Crc.{crc, mirrored, bits, remainder, message, modulo}
+use Rattle.octets.specs.Crc.{crc, withCrc, mirrored, bits, remainder, message, modulo}
+use Rattle.octets.proofs.Tabulate.{tabulate}
 use Rattle.packets.specs.Instruction.{kindOf, codeOf, typeOf, isWrite, isVerified, wantsReply, isIncrementing, rOf, isUnused, isRead, isRmw}
 use Rattle.packets.specs.Instruction.{replyAddressSize, headerSize, replyForm}
 use Rattle.packets.specs.Path.{withoutLeadingZeros, orOneZero, pathOf, kept}
@@ -20,6 +22,7 @@ use Rattle.packets.specs.declared.reading.Reading.the-variants.{Command}
 use Rattle.packets.specs.declared.reading.Refusal.the-variants.{Incomplete, UnknownProtocol, ExtendedProtocol, Reply, HeaderCrc}
 use Rattle.packets.specs.declared.reading.End.the-variants.{Eop, Eep}
 use Rattle.packets.specs.declared.time.When.the-variants.{AtWrap, AtOnce}
+use Rattle.packets.specs.declared.time.TimeReading.{TimeReading}
 use Rattle.packets.specs.declared.time.TimeReading.the-variants.{ThrownAway, Taken}
 
 -- ---- document 01, 'Cases by hand': 7C a verified write, 4C a read, 5C an RMW, all incrementing with a reply
@@ -503,3 +506,23 @@ preamble-thrown-away = refl
 preamble-eep : readTime (0xFE ∷ 0xF0 ∷ 0x9F ∷ 0x05 ∷ 0x00 ∷ 0x00 ∷ 0x00 ∷ 0x05 ∷ 0x80 ∷ 0x00 ∷ 0x00 ∷ 0xFF ∷ 0xBB ∷ []) Eep 0x43 0xF0 ≡ ThrownAway
 unfolding readTime crc mirrored bits remainder message modulo
 preamble-eep = refl
+
+-- ---- all 128 second octets without bit 0, by numerals
+
+-- a packet with that second octet, and as many octets of seconds and of fraction as it tells of; its CRC is right. Half of them have either epoch
+abbrev epochSent : ℕ → ℕ
+epochSent o = cond (eqb (o / 32 % 2) 0) 0x9F 0xAF
+
+abbrev octetSent : ℕ → List ℕ
+octetSent o =
+    withCrc ((0xFE ∷ 0xF0 ∷ epochSent o ∷ o ∷ []) ++ replicate (o / 32 % 4) 0x00 ++ (0x01 ∷ 0x02 ∷ 0x03 ∷ 0x04 ∷ 0x05 ∷ 0x06 ∷ 0x07 ∷ []) ++ replicate (o / 4 % 8) 0xFF)
+
+-- it is taken exactly if 02 is not in it, and at once exactly if it is odd
+abbrev octetTold : ℕ → TimeReading
+octetTold o =
+    cond (eqb (o / 2 % 2) 0)
+    (Taken (record { epoch = epochSent o; when = cond (eqb (o % 2) 1) AtOnce AtWrap; value = 0x01020304050607 })) ThrownAway
+
+octets-told : tabulate 0 128 (λ o. readTime (octetSent o) Eop 0x43 0xF0) ≡ tabulate 0 128 octetTold
+unfolding readTime crc mirrored bits remainder message modulo
+octets-told = refl

@@ -89,9 +89,9 @@ module _ (address n : ℕ) (t : TheTime) (zeros : ℕ) (cut : List ℕ) (few : z
       address = addressed;
       protocol = refl;
       epoch = known;
-      first = omega (arith, when-small (t .when));
-      sixth = omega (arith, when-small (t .when));
-      zeros = rw seconds-back (ap number zeros-there ∙ zeros-worth zeros);
+      bit-0 = omega (arith, when-small (t .when));
+      bit-6 = omega (arith, when-small (t .when));
+      nothing = rw seconds-back (ap number zeros-there ∙ zeros-worth zeros);
       sum = crc-checked (front ++ bytesOf 7 (t .value) ++ cut);
     }
 
@@ -122,12 +122,12 @@ module _ (p : List ℕ) (bytes : Digits 256 p) (end : End) (logical n : ℕ) (pa
   front-made : part 0 4 p ≡ getD p 0 0 ∷ n ∷ getD p 2 0 ∷ preambleOf (addedSeconds p) (length cut) (timeAt p .when) ∷ []
   front-made =
       let octet : getD p 3 0 ≡ preambleOf (addedSeconds p) (length cut) (timeAt p .when) =
-      omega (arith, octet-fields (getD p 3 0) (digits-at 256 p 3 (omega arith) bytes), passed .first, passed .sixth, length-cut, when-told p) in
+      omega (arith, octet-fields (getD p 3 0) (digits-at 256 p 3 (omega arith) bytes), passed .bit-0, passed .bit-6, length-cut, when-told p) in
       part-bytes 0 3 p (omega (arith, passed .size)) ∙ ap₂ (λ (a b : ℕ). getD p 0 0 ∷ a ∷ getD p 2 0 ∷ b ∷ []) (passed .protocol) octet
 
   zeros-made : part 4 (addedSeconds p) p ≡ replicate (addedSeconds p) 0
   zeros-made =
-      sym (bytes-part p 4 (addedSeconds p) bytes (omega (arith, passed .size))) ∙ ap (bytesOf (addedSeconds p)) (passed .zeros) ∙ bytes-of-nothing (addedSeconds p)
+      sym (bytes-part p 4 (addedSeconds p) bytes (omega (arith, passed .size))) ∙ ap (bytesOf (addedSeconds p)) (passed .nothing) ∙ bytes-of-nothing (addedSeconds p)
 
   value-made : part at 7 p ≡ bytesOf 7 (timeAt p .value)
   value-made = sym (bytes-part p at 7 bytes (omega (arith, passed .size)))
@@ -160,7 +160,7 @@ module _ (p : List ℕ) (bytes : Digits 256 p) (end : End) (logical n : ℕ) (pa
       ap number (part-split 4 (addedSeconds p + 7) (addedFraction p) (at + 7) p (omega arith))
       ∙ worth-append 256 (part 4 (addedSeconds p + 7) p) cut
       ∙ ap₂ (λ (m k : ℕ). m * 256 ^ k + number cut)
-      (ap number (part-split 4 (addedSeconds p) 7 at p refl) ∙ worth-append 256 (part 4 (addedSeconds p) p) (part at 7 p) ∙ rw (passed .zeros) (simp (zero-mul, zero-add))) length-cut
+      (ap number (part-split 4 (addedSeconds p) 7 at p refl) ∙ worth-append 256 (part 4 (addedSeconds p) p) (part at 7 p) ∙ rw (passed .nothing) (simp (zero-mul, zero-add))) length-cut
 
   pub cut-below : number cut < 256 ^ addedFraction p
   cut-below = number-below p (at + 7) (addedFraction p) bytes (omega (arith, passed .size))

@@ -1,4 +1,4 @@
--- Laws of time packets: what one has passed, the bytes from the parts and back, and the time that was sent.
+-- Laws of time packets: what one has passed, and when it is to be taken.
 use mathlib.Core.Path.{_≡_, refl, sym, ap, _∙_}
 use mathlib.Core.Bool.{Bool, true, false, cond, _&&_, _||_, or-true, false≢true}
 use mathlib.Core.Logic.{_⊎_, inl, inr, ⊎-elim}
@@ -52,9 +52,9 @@ module _ (p : List ℕ) (end : End) (logical n : ℕ) where
     pub address : (getD p 0 0 ≡ logical) ⊎ (getD p 0 0 ≡ 0xFE)
     pub protocol : getD p 1 0 ≡ n
     pub epoch : (getD p 2 0 ≡ 0x9F) ⊎ (getD p 2 0 ≡ 0xAF)
-    pub first : preambleBits 0 0 p ≡ 0
-    pub sixth : preambleBits 6 6 p ≡ 0
-    pub zeros : number (part 4 (addedSeconds p) p) ≡ 0
+    pub bit-0 : preambleBits 0 0 p ≡ 0
+    pub bit-6 : preambleBits 6 6 p ≡ 0
+    pub nothing : number (part 4 (addedSeconds p) p) ≡ 0
     pub sum : crc p ≡ 0
 
   all-of : (a b c d e f g h i : Bool) → (a && b && c && d && e && (f && g) && h && i) ≡ true
@@ -81,9 +81,9 @@ module _ (p : List ℕ) (end : End) (logical n : ℕ) where
         address = one-of (getD p 0 0) logical 0xFE (t .2);
         protocol = eqb-true _ _ (t .3);
         epoch = one-of (getD p 2 0) 0x9F 0xAF (t .4);
-        first = eqb-true _ _ (t .5);
-        sixth = eqb-true _ _ (t .6);
-        zeros = eqb-true _ _ (t .7);
+        bit-0 = eqb-true _ _ (t .5);
+        bit-6 = eqb-true _ _ (t .6);
+        nothing = eqb-true _ _ (t .7);
         sum = eqb-true _ _ (t .8);
       }
 
@@ -95,9 +95,9 @@ module _ (p : List ℕ) (end : End) (logical n : ℕ) where
         is-one-of (getD p 0 0) logical 0xFE (t .address),
         eq-eqb _ _ (t .protocol),
         is-one-of (getD p 2 0) 0x9F 0xAF (t .epoch),
-        eq-eqb _ _ (t .first),
-        eq-eqb _ _ (t .sixth),
-        eq-eqb _ _ (t .zeros),
+        eq-eqb _ _ (t .bit-0),
+        eq-eqb _ _ (t .bit-6),
+        eq-eqb _ _ (t .nothing),
         eq-eqb _ _ (t .sum),
       )
 

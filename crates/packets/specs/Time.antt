@@ -34,7 +34,7 @@ unfoldable pub timePacketOf : ℕ → ℕ → Time → ℕ → List ℕ → List
 timePacketOf address timeNumber t zeros cut =
     withCrc ((address ∷ timeNumber ∷ t .epoch ∷ preambleOf zeros (length cut) (t .when) ∷ []) ++ replicate zeros 0 ++ bytesOf 7 (t .value) ++ cut)
 
--- From bytes to parts. That no other number falls under the second case is `when-told`, in TimeLaws.
+-- From bytes to parts. Of the two numbers that a bit can be, each is read as its own case: `number-back`, in TimeLaws.
 abbrev pub whenOf : ℕ → When
 whenOf n = cond (eqb n (whenNumber AtOnce)) AtOnce AtWrap
 

@@ -68,12 +68,12 @@ fn is_time_packet(p: &[u8], end: End, logical: u8, number: u8) -> bool
         return false;
     }
     let octet = p[3];
-    let more = added_seconds(octet);
-    if p.len() != 12 + more + added_fraction(octet) {
+    let seconds = added_seconds(octet);
+    if p.len() != 12 + seconds + added_fraction(octet) {
         return false;
     }
     let eop = end.is_eop();
-    let zeros = worth_nothing(&p[4..4 + more]);
+    let zeros = worth_nothing(&p[4..4 + seconds]);
     let sum = octets::crc_of(p);
     eop
         & ((p[0] == logical) | (p[0] == 0xFE))
