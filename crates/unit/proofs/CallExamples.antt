@@ -119,7 +119,7 @@ time-taken t path u bytes link lent = (refl, refl, refl)
 times :
     -- another time number is an unknown protocol
     (comes-to (numbered 0xF3 4) 1 (0x43 ∷ 0xF0 ∷ []) ≡ Ends (Unread UnknownProtocol))
-    -- ours, but not 12 bytes
+    -- ours, but of two bytes
     × (comes-to (numbered 0xF3 4) 1 (0x43 ∷ 0xF3 ∷ []) ≡ Ends TimeThrownAway)
     -- to its address; and to another
     × (comes-to (numbered 0xF3 4) 1 (0x43 ∷ 0xF3 ∷ 0x9F ∷ 0x01 ∷ 0x00 ∷ 0x00 ∷ 0x00 ∷ 0x07 ∷ 0x40 ∷ 0x00 ∷ 0x00 ∷ 0x93 ∷ [])

@@ -54,12 +54,12 @@ nearest-near et b = go (decLe (2 ^ 23) (et % 2 ^ 24))
 -- ---- the clock
 
 module _ (c : Clock) where
-  -- a time packet with 01 sets ET at once, with its epoch code, and drops a waiting value
+  -- a time packet whose last preamble bit is 1 sets ET at once, with its epoch code, and drops a waiting value
   pub set-at-once : (et epoch : ℕ) → Shows (afterTime c (record { epoch = epoch; when = AtOnce; value = et })) (c .last) et epoch NoValue
   unfolding afterTime
   set-at-once et epoch = (refl, refl, refl, refl)
 
-  -- one with 00 makes its value wait, with its epoch code, and replaces another
+  -- one where it is 0 makes its value wait, with its epoch code, and replaces another
   pub set-at-wrap : (et epoch : ℕ)
       → Shows (afterTime c (record { epoch = epoch; when = AtWrap; value = et })) (c .last) (c .elapsed .value) (c .elapsed .epoch) (Value (record { value = et; epoch = epoch }))
   unfolding afterTime

@@ -24,7 +24,7 @@ timeOf seconds fraction = seconds * 2 ^ 24 + fraction
 abbrev pub sent : Time → Elapsed
 sent t = record { value = t .value; epoch = t .epoch }
 
--- A time packet with 01 sets ET at once and drops a waiting value; 00 makes T wait, replacing another.
+-- A time packet whose second preamble octet ends in 1 sets ET at once and drops a waiting value; one that ends in 0 makes T wait, replacing another.
 abbrev pub setAt : When → Clock → Time → Clock
 setAt AtOnce c t = record { last = c .last; elapsed = sent t; waiting = NoValue }
 setAt AtWrap c t = record { last = c .last; elapsed = c .elapsed; waiting = Value (sent t) }
