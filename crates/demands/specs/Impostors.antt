@@ -9,13 +9,14 @@ use Rattle.octets.specs.Places.{part}
 use Rattle.octets.specs.Numbers.{number}
 use Rattle.octets.specs.Crc.{crc}
 use Rattle.packets.specs.Reading.{isEop}
-use Rattle.packets.specs.Time.{whenOf, readTime}
+use Rattle.packets.specs.Time.{readTime}
 use Rattle.packets.specs.Reply.{replyLength, replied}
 use Rattle.packets.specs.declared.header.Header.{Header}
 use Rattle.packets.specs.declared.path.Path.{Path}
 use Rattle.packets.specs.declared.reading.Reading.{Reading}
 use Rattle.packets.specs.declared.reading.Reading.the-variants.{Refused, Time, Command}
 use Rattle.packets.specs.declared.reading.End.{End}
+use Rattle.packets.specs.declared.time.When.the-variants.{AtWrap, AtOnce}
 use Rattle.packets.specs.declared.time.Time.{Time as TheTime}
 use Rattle.packets.specs.declared.time.TimeReading.{TimeReading}
 use Rattle.packets.specs.declared.time.TimeReading.the-variants.{ThrownAway, Taken}
@@ -176,7 +177,7 @@ abbrev pub ofFraction : List ℕ → ℕ
 ofFraction p = getD p 3 0 / 4 % 8
 
 abbrev pub timeFrom : ℕ → List ℕ → TheTime
-timeFrom at p = record { epoch = getD p 2 0; when = whenOf (getD p 3 0 % 2); value = number (part at 7 p) }
+timeFrom at p = record { epoch = getD p 2 0; when = cond (eqb (getD p 3 0 % 2) 1) AtOnce AtWrap; value = number (part at 7 p) }
 
 -- It takes time packets by the newer preamble, but rounds to the nearest tick instead of cutting off: by the first octet that is cut off.
 abbrev pub rounded : List ℕ → TimeReading → TimeReading

@@ -1,8 +1,8 @@
 -- The newer preamble of a time packet (document 02, 12; 004, 'Draft P-Field format'): which packets are taken, that ET is the greatest tick not after the time sent,
 -- and what the receiver of before makes of packets, its own and the newer ones.
 --
--- Bytes and bits are taken apart and put together in numerals here, and not by the words of `packets`: these and the code could slip together, and what is said here has to
--- show it.
+-- Bytes and bits are taken apart and put together in numerals here, and not by the words that `readTime` is made of: these and the code could slip together, and what is
+-- said here has to show it.
 use mathlib.Core.Path.{_≡_}
 use mathlib.Core.Bool.{Bool, true, cond, _&&_, _||_}
 use mathlib.Core.Logic.{_⊎_}
@@ -14,7 +14,7 @@ use Rattle.octets.specs.Places.{part}
 use Rattle.octets.specs.Numbers.{number, bytesOf, Digits}
 use Rattle.octets.specs.Crc.{crc, withCrc}
 use Rattle.packets.specs.Reading.{isEop}
-use Rattle.packets.specs.Time.{whenOf, readTime}
+use Rattle.packets.specs.Time.{readTime}
 use Rattle.packets.specs.declared.reading.End.{End}
 use Rattle.packets.specs.declared.reading.End.the-variants.{Eop}
 use Rattle.packets.specs.declared.reading.Reading.{Reading}
@@ -139,7 +139,7 @@ wasTimePacket p end logical timeNumber =
 
 abbrev pub wasRead : List ℕ → End → ℕ → ℕ → TimeReading
 wasRead p end logical timeNumber =
-    cond (wasTimePacket p end logical timeNumber) (Taken (record { epoch = getD p 2 0; when = whenOf (getD p 3 0); value = number (part 4 7 p) })) ThrownAway
+    cond (wasTimePacket p end logical timeNumber) (Taken (record { epoch = getD p 2 0; when = cond (eqb (getD p 3 0) 0x01) AtOnce AtWrap; value = number (part 4 7 p) })) ThrownAway
 
 -- The terminal that reads time packets so, and does all else as ours.
 abbrev pub takeBy : (List ℕ → End → ℕ → ℕ → TimeReading) → Reading → TheUnit → Arrived → Lent → Outcome
