@@ -2,12 +2,13 @@
 use mathlib.Core.Path.{_≡_, refl, sym, ap, _∙_}
 use mathlib.Core.Bool.{Bool, true, false, cond, _&&_, and-true, and-false}
 use mathlib.Core.Logic.{_⊎_, inl, inr, ⊎-elim, _≢_}
-use mathlib.Core.List.{List}
-use Prim.Native.Nat.{ℕ, _+_, _-_, _%_, _≤_}
+use mathlib.Core.List.{List, [], _∷_}
+use Prim.Native.Nat.{ℕ, _+_, _-_, _%_, _^_, _≤_}
 use native.Mathlib.Omega.{arith}
 use native.Mathlib.Decide.{ℕ-discrete, decLe}
 use native.Mathlib.Nat.{lt-of-not-le}
-use borrow.Author.Tests.{ne-eqb}
+use borrow.Author.Tests.{eqb-true, ne-eqb}
+use lib.Dec.{eqb}
 use lib.ListN.{length, getD, List·getD-eq-default}
 use Rattle.octets.specs.Places.{part}
 use Rattle.octets.specs.Numbers.{number, Digits}
@@ -30,20 +31,23 @@ use Rattle.unit.specs.Usable.{usable}
 use Rattle.unit.specs.Given.{Arrived, asRead, Lent}
 use Rattle.unit.specs.Judge.{timeRuling, judged, isLink}
 use Rattle.unit.specs.Fate.{fateNumber}
-use Rattle.unit.specs.Clock.{afterTime, afterCode}
+use Rattle.unit.specs.Clock.{setAt, afterTime, afterCode, afterTicks}
 use Rattle.unit.specs.Act.{withClock, countedUnit}
-use Rattle.unit.specs.Calls.{Outcome, withoutReply, leaving, doneBy, takePacket, takeTimeCode}
+use Rattle.unit.specs.Calls.{Outcome, withoutReply, leaving, doneBy, takePacket, smallCall, takeTimeCode, takeTicks}
 use Rattle.unit.specs.declared.fate.Fate.the-variants.{TimeTaken}
+use Rattle.unit.specs.declared.clock.Clock.{Clock}
 use Rattle.unit.specs.declared.clock.Elapsed.{Elapsed}
 use Rattle.unit.specs.declared.clock.Waiting.the-variants.{Value}
 use Rattle.unit.specs.declared.unit.Unit.{Unit as TheUnit}
 use Rattle.unit.proofs.FateLaws.{unread-number}
 use Rattle.unit.proofs.UsableLaws.{number-fits, alone}
-use Rattle.unit.proofs.CommandLaws.{packets-are, command-fate}
+use Rattle.unit.proofs.CommandLaws.{packets-are, small-is, command-fate}
+use Rattle.demands.proofs.SecondsHold.{others-leave-time}
 use Rattle.demands.proofs.ZeroHolds.{by-second-byte}
-use Rattle.demands.specs.Terminal.{ours, readOf, pathIn}
+use Rattle.demands.specs.Terminal.{ours, readOf, pathIn, Call, packet, timeCode, ticks, after}
+use Rattle.demands.specs.Refusals.{countedAs}
 use Rattle.demands.specs.Seconds.{etOf}
-use Rattle.demands.specs.Preamble.{numberGot, octetIn, lastBit, bytesMade, MadeOf, Sets, MadeIsTaken, TakenIsMade, ElseSixteen, IsGreatest, GreatestTick, GreatestAtWrap, wasRead, takeBy, reading, before, ReaderAlone, TwelveAsBefore, Adds, OldAsBefore, WasThrownAway, NeverWrong}
+use Rattle.demands.specs.Preamble.{numberGot, octetIn, lastBit, bytesMade, MadeOf, clockSet, Sets, MadeIsTaken, TakenIsMade, ElseSixteen, IsGreatest, GreatestTick, BeforeWrap, GreatestAtWrap, wasRead, takeBy, reading, before, ReaderAlone, TwelveAsBefore, Adds, OldAsBefore, WasThrownAway, NeverWrong}
 
 -- ---- terminals that differ by their readers of time packets alone
 
@@ -169,6 +173,15 @@ made-bytes : (address n : ℕ) (time : TheTime) (zeros : ℕ) (cut : List ℕ) �
 unfolding timePacketOf
 made-bytes address n time zeros cut = rw (bit-is (time .when))
 
+-- and so is the clock that of `unit`
+clock-is : (c : Clock) (time : TheTime) → afterTime c time ≡ clockSet (time .when) c time
+unfolding afterTime
+clock-is c time = go (time .when)
+  where
+    go : (w : When) → setAt w c time ≡ clockSet w c time
+    go AtWrap = refl
+    go AtOnce = refl
+
 pub made-is-taken : MadeIsTaken ours
 unfolding takePacket judged countedFor timePacketOf
 made-is-taken u p lent time zeros cut works there (address, addressed, known, small, few, fewer, made, eop) =
@@ -182,7 +195,7 @@ made-is-taken u p lent time zeros cut works there (address, addressed, known, sm
     packet-time (p .packet) (u .number) (omega (arith, ap length bytes)) (fits .0) (fits .1) (ap (λ (b : List ℕ). getD b 1 0) bytes) in
     let taken : readTime (p .packet) (p .end) (u .logical) (u .number) ≡ Taken time =
     rw (bytes, eop) (time-read address (u .number) time zeros cut (omega (arith, few)) (omega (arith, fewer)) (u .logical) addressed known small) in
-    rw (bare-is, works, there, read, taken) (refl, refl, refl, (refl, refl))
+    rw (bare-is, works, there, read, taken) (refl, ap (λ (c : Clock). countedAs 19 (withClock u c)) (clock-is (u .clock) time), refl, (refl, refl))
 
 -- a packet that gets 19 was taken, as it arrived
 module _ (u : TheUnit) (p : Arrived) (lent : Lent) (Q : Outcome → Type 0) where
@@ -209,7 +222,7 @@ taken-is-made u p lent bytes =
     let few : addedSeconds (p .packet) ≤ 3 = omega arith in
     let fewer : length cut ≤ 7 = omega (arith, length-cut (p .packet) bytes (p .end) (u .logical) (u .number) passed) in
     let below = taken-below (p .packet) (p .end) (u .logical) (u .number) t bytes w in
-    (t, addedSeconds (p .packet), cut, (getD (p .packet) 0 0, passed .address, known, below, few, fewer, (rw says at made) ∙ sym (made-bytes (getD (p .packet) 0 0) (u .number) t (addedSeconds (p .packet)) cut), passed .eop), (refl, refl, refl, (refl, refl))))
+    (t, addedSeconds (p .packet), cut, (getD (p .packet) 0 0, passed .address, known, below, few, fewer, (rw says at made) ∙ sym (made-bytes (getD (p .packet) 0 0) (u .number) t (addedSeconds (p .packet)) cut), passed .eop), (refl, ap (λ (c : Clock). countedAs 19 (withClock u c)) (clock-is (u .clock) t), refl, (refl, refl))))
 
 pub greatest-tick : GreatestTick ours
 unfolding afterTime
@@ -236,11 +249,29 @@ greatest-tick u p lent bytes =
     go t AtOnce e bit most = rw e (λ one. most, λ none. absurd (omega (arith, bit, none)))
     go t AtWrap e bit most = rw e (λ one. absurd (omega (arith, bit, one)), λ none. (record { value = t .value; epoch = t .epoch }, refl, most))
 
+-- what waits goes on to wait
+small-waits : (v after : TheUnit) (w : Elapsed) → v .clock .waiting ≡ Value w → after .clock .waiting ≡ Value w → smallCall v after .unit .clock .waiting ≡ Value w
+small-waits v after w e f = small-is v after (λ a. a .unit .clock .waiting ≡ Value w) (λ u. e) (λ u. f)
+
+waits-on : (v : TheUnit) (w : Elapsed) (cs : List Call) → v .clock .waiting ≡ Value w → BeforeWrap ours v cs → after ours v cs .clock .waiting ≡ Value w
+unfolding after takeTimeCode takeTicks afterCode afterTicks
+waits-on v w [] e b = e
+waits-on v w (packet p lent ∷ cs) e b = waits-on (takePacket v p lent .answer .unit) w cs (others-leave-time v p lent (b .0) .1 ∙ e) (b .1)
+waits-on v w (timeCode byte ∷ cs) e b =
+    waits-on (takeTimeCode v byte .unit) w cs (small-waits v (withClock v (afterCode (v .clock) (byte % 2 ^ 6))) w e (go (eqb (v .clock .last) 63) (eqb (byte % 2 ^ 6) 0) refl refl)) (b .1)
+  where
+    go : (s t : Bool) → eqb (v .clock .last) 63 ≡ s → eqb (byte % 2 ^ 6) 0 ≡ t → afterCode (v .clock) (byte % 2 ^ 6) .waiting ≡ Value w
+    go true true f g = absurd (b .0 (eqb-true _ _ f, eqb-true _ _ g))
+    go true false f g = rw (f, g) e
+    go false t f g = rw f e
+waits-on v w (ticks n ∷ cs) e b = waits-on (takeTicks v n .unit) w cs (small-waits v (withClock v (afterTicks (v .clock) n)) w e e) b
+
 pub greatest-at-wrap : GreatestAtWrap ours
 unfolding takeTimeCode afterCode
-greatest-at-wrap u p lent byte bytes taken later works wraps =
+greatest-at-wrap u p lent between byte bytes taken later before-wrap works wraps =
     let waits = greatest-tick u p lent bytes taken .1 later in
-    rw (works, wraps .0, wraps .1, waits .1) (waits .2)
+    let still = waits-on (takePacket u p lent .answer .unit) (waits .0) between (waits .1) before-wrap in
+    rw (works, wraps .0, wraps .1, still) (waits .2)
 
 pub else-sixteen : ElseSixteen ours
 else-sixteen u p lent bytes otherwise two second works there none =

@@ -26,17 +26,17 @@ use Rattle.packets.specs.declared.time.TimeReading.{TimeReading}
 use Rattle.packets.specs.declared.time.TimeReading.the-variants.{ThrownAway, Taken}
 use Rattle.unit.specs.Fate.{fateNumber}
 use Rattle.unit.specs.Usable.{usable, usableUnit}
-use Rattle.unit.specs.Clock.{afterTime}
 use Rattle.unit.specs.Act.{withClock}
 use Rattle.unit.specs.Given.{Arrived, asRead, Lent}
 use Rattle.unit.specs.Judge.{timeRuling, isLink}
 use Rattle.unit.specs.Calls.{Outcome, doneBy, takePacket, takeTimeCode, takeTicks}
+use Rattle.unit.specs.declared.clock.Clock.{Clock}
 use Rattle.unit.specs.declared.clock.Elapsed.{Elapsed}
-use Rattle.unit.specs.declared.clock.Waiting.the-variants.{Value}
+use Rattle.unit.specs.declared.clock.Waiting.the-variants.{NoValue, Value}
 use Rattle.unit.specs.declared.unit.Unit.{Unit as TheUnit}
-use Rattle.demands.specs.Terminal.{Terminal, ours, readOf, pathIn}
+use Rattle.demands.specs.Terminal.{Terminal, ours, readOf, pathIn, Call, packet, timeCode, ticks, after}
 use Rattle.demands.specs.Refusals.{countedAs, NoReply, OnlyCounted}
-use Rattle.demands.specs.Seconds.{etOf, Wraps}
+use Rattle.demands.specs.Seconds.{etOf, NotTaken, Wraps}
 use Rattle.demands.specs.Zero.{BeginsOtherwise}
 
 -- The number that a packet gets.
@@ -72,10 +72,18 @@ MadeOf u p time zeros cut =
     × (p .packet ≡ bytesMade address (u .number) time zeros cut)
     × (p .end ≡ Eop)
 
+-- The clock behind it: at once ET is that time, with its epoch code, and nothing waits; else that time waits, and ET stays. The last Time-Code stays.
+abbrev pub clockSet : When → Clock → TheTime → Clock
+clockSet AtOnce c time = record { last = c .last; elapsed = record { value = time .value; epoch = time .epoch }; waiting = NoValue }
+clockSet AtWrap c time = record { last = c .last; elapsed = c .elapsed; waiting = Value (record { value = time .value; epoch = time .epoch }) }
+
 -- It gets 19, and sets the time.
 abbrev pub Sets : TheUnit → Lent → TheTime → Outcome → Type 0
 Sets u lent time o =
-    (numberGot o ≡ 19) × (o .answer .unit ≡ countedAs 19 (withClock u (afterTime (u .clock) time))) × (o .memory ≡ lent .memory) × NoReply lent o
+    (numberGot o ≡ 19)
+    × (o .answer .unit ≡ countedAs 19 (withClock u (clockSet (time .when) (u .clock) time)))
+    × (o .memory ≡ lent .memory)
+    × NoReply lent o
 
 -- Every such packet sets the time that it was made of, whatever was added;
 abbrev pub MadeIsTaken : Terminal → Type 0
@@ -89,7 +97,7 @@ TakenIsMade t =
     (u : TheUnit) (p : Arrived) (lent : Lent) → Digits 256 (p .packet) → numberGot (t .packet u p lent) ≡ 19
     → (time : TheTime) × (zeros : ℕ) × (cut : List ℕ) × MadeOf u p time zeros cut × Sets u lent time (t .packet u p lent)
 
--- Else 16: so of every other packet of bytes with the unit's time number.
+-- Else 16: so of every other packet of bytes with the unit's time number, save one that begins 00 FE 03, which is no time packet.
 abbrev pub ElseSixteen : Terminal → Type 0
 ElseSixteen t =
     (u : TheUnit) (p : Arrived) (lent : Lent) → Digits 256 (p .packet) → BeginsOtherwise p → 2 ≤ length (p .packet) → getD (p .packet) 1 0 ≡ u .number
@@ -108,7 +116,7 @@ perTick p = 256 ^ (octetIn p / 4 % 8)
 
 -- So many ticks are not after the time sent, and one more is.
 abbrev pub IsGreatest : Arrived → ℕ → Type 0
-IsGreatest p ticks = (ticks * perTick p ≤ sentIn p) × (sentIn p < (ticks + 1) * perTick p)
+IsGreatest p et = (et * perTick p ≤ sentIn p) × (sentIn p < (et + 1) * perTick p)
 
 -- A packet of bytes that is taken sets ET to that at once, or makes that wait, by the last bit of its second preamble octet.
 abbrev pub GreatestTick : Terminal → Type 0
@@ -117,12 +125,20 @@ GreatestTick t =
     → (octetIn p % 2 ≡ 1 → IsGreatest p (etOf (t .packet u p lent .answer .unit)))
     × (octetIn p % 2 ≡ 0 → (w : Elapsed) × (t .packet u p lent .answer .unit .clock .waiting ≡ Value w) × IsGreatest p (w .value))
 
--- What waits is ET behind the next wrap, where that comes before another packet.
+-- Calls among which no time packet is taken, and no Time-Code is a wrap.
+abbrev pub BeforeWrap : Terminal → TheUnit → List Call → Type 0
+BeforeWrap t u [] = Unit
+BeforeWrap t u (packet p lent ∷ cs) = NotTaken t u p lent × BeforeWrap t (t .packet u p lent .answer .unit) cs
+BeforeWrap t u (timeCode byte ∷ cs) = (Wraps u byte → ⊥) × BeforeWrap t (t .timeCode u byte .unit) cs
+BeforeWrap t u (ticks n ∷ cs) = BeforeWrap t (t .ticks u n .unit) cs
+
+-- What waits is ET behind the next wrap, where no other time packet is taken before it.
 abbrev pub GreatestAtWrap : Terminal → Type 0
 GreatestAtWrap t =
-    (u : TheUnit) (p : Arrived) (lent : Lent) (byte : ℕ) → Digits 256 (p .packet) → numberGot (t .packet u p lent) ≡ 19 → octetIn p % 2 ≡ 0
-    → usableUnit (t .packet u p lent .answer .unit) ≡ true → Wraps (t .packet u p lent .answer .unit) byte
-    → IsGreatest p (etOf (t .timeCode (t .packet u p lent .answer .unit) byte .unit))
+    (u : TheUnit) (p : Arrived) (lent : Lent) (between : List Call) (byte : ℕ) → Digits 256 (p .packet) → numberGot (t .packet u p lent) ≡ 19 → octetIn p % 2 ≡ 0
+    → BeforeWrap t (t .packet u p lent .answer .unit) between
+    → usableUnit (after t (t .packet u p lent .answer .unit) between) ≡ true → Wraps (after t (t .packet u p lent .answer .unit) between) byte
+    → IsGreatest p (etOf (t .timeCode (after t (t .packet u p lent .answer .unit) between) byte .unit))
 
 -- ---- the receiver of before
 

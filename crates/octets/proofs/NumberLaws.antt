@@ -5,7 +5,7 @@ use mathlib.Core.Bool.{Bool, true, false, cond, _&&_, and-true}
 use mathlib.Core.Logic.{_⊎_, inl, inr, ⊎-elim}
 use Prim.Native.Nat.{ℕ, zero, suc, _+_, _-_, _*_, _/_, _%_, _^_, _<_, _≤_}
 use native.Mathlib.Omega.{arith}
-use native.Mathlib.Nat.{le-of-eq, lt-of-not-le, one-mul, div-eq-of-lt, div-lt-iff-lt-mul, mul-pos, mul-assoc, add-mul, add-assoc, add-comm, add-mul-div-right, mul-add-mod-self-right, zero-mul, zero-add, mod-one, pow-zero, pow-succ', mod-eq-of-lt, mod-lt, suc-add}
+use native.Mathlib.Nat.{le-of-eq, lt-of-not-le, one-mul, div-eq-of-lt, div-lt-iff-lt-mul, mul-pos, mul-assoc, mul-one, add-mul, add-assoc, add-zero, add-comm, add-mul-div-right, mul-add-mod-self-right, zero-mul, zero-add, mod-one, pow-zero, pow-succ', mod-eq-of-lt, mod-lt, suc-add}
 use lib.Pow.{pow-add}
 use lib.Arith.{mod-mul, digits-lt, digits-div}
 use lib.Dec.{leb, ltb, eqb}
@@ -32,7 +32,10 @@ worth-zeros : (base k : ℕ) (ds : List ℕ) → worth base (replicate k 0 ++ ds
 worth-zeros base zero ds = refl
 worth-zeros base (suc k) ds = simp (zero-mul, zero-add) (worth-zeros base k ds)
 
--- of two rows, the first weighs more by as many digits as the second has
+-- one digit is worth itself; and of two rows, the first weighs more by as many digits as the second has. These two leave no room
+pub worth-one : (base d : ℕ) → worth base (d ∷ []) ≡ d
+worth-one base d = simp (pow-zero, mul-one, add-zero)
+
 pub worth-append : (base : ℕ) (xs ys : List ℕ) → worth base (xs ++ ys) ≡ worth base xs * base ^ length ys + worth base ys
 worth-append base [] ys = sym (simp (zero-mul, zero-add))
 worth-append base (x ∷ xs) ys =
