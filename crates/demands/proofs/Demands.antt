@@ -14,7 +14,8 @@ use Rattle.demands.proofs.NamesHold.{rows-kept, missing-refused, missin
 use Rattle.demands.proofs.SecondsHold.{others-leave-time, wrap-moves-half, one-is-nearest, ticks-are-seconds, one-second, one-second-in-order}
 use Rattle.demands.proofs.SecondsShown.{some-turn}
 use Rattle.demands.proofs.ZeroHolds.{read-so, as-without-it, others-as-before, by-second-byte, only-addressed, taken-once, was-refused, none-with-zero}
-use Rattle.demands.proofs.PreambleHolds.{made-is-taken, taken-is-made, else-sixteen, greatest-tick, greatest-at-wrap, reader-alone, twelve-as-before, old-as-before, was-thrown-away, never-wrong}
+use Rattle.demands.proofs.PreambleHolds.{made-is-taken, taken-is-made, else-sixteen, greatest-tick, reader-alone, twelve-as-before, old-as-before, was-thrown-away, never-wrong}
+use Rattle.demands.proofs.PreambleShown.{greatest-at-wrap}
 
 pub demand-1 : Demand1 ours
 demand-1 = (row-by-row, one-two-three, small-rows, listed, no-row-empty, never-strays, set-up-stays, stays-usable, comes-back)

@@ -47,7 +47,7 @@ use Rattle.demands.proofs.ZeroHolds.{by-second-byte}
 use Rattle.demands.specs.Terminal.{ours, readOf, pathIn, Call, packet, timeCode, ticks, after}
 use Rattle.demands.specs.Refusals.{countedAs}
 use Rattle.demands.specs.Seconds.{etOf}
-use Rattle.demands.specs.Preamble.{numberGot, octetIn, lastBit, bytesMade, MadeOf, clockSet, Sets, MadeIsTaken, TakenIsMade, ElseSixteen, IsGreatest, GreatestTick, BeforeWrap, GreatestAtWrap, wasRead, takeBy, reading, before, ReaderAlone, TwelveAsBefore, Adds, OldAsBefore, WasThrownAway, NeverWrong}
+use Rattle.demands.specs.Preamble.{numberGot, octetIn, lastBit, bytesMade, MadeOf, clockSet, Sets, MadeIsTaken, TakenIsMade, ElseSixteen, IsGreatest, GreatestTick, BeforeWrap, WaitsUntil, wasRead, takeBy, reading, before, ReaderAlone, TwelveAsBefore, Adds, OldAsBefore, WasThrownAway, NeverWrong}
 
 -- ---- terminals that differ by their readers of time packets alone
 
@@ -266,9 +266,10 @@ waits-on v w (timeCode byte ∷ cs) e b =
     go false t f g = rw f e
 waits-on v w (ticks n ∷ cs) e b = waits-on (takeTicks v n .unit) w cs (small-waits v (withClock v (afterTicks (v .clock) n)) w e e) b
 
-pub greatest-at-wrap : GreatestAtWrap ours
+pub set-at-wrap : (u : TheUnit) (p : Arrived) (lent : Lent) (between : List Call) (byte : ℕ) → WaitsUntil ours u p lent between byte
+    → IsGreatest p (etOf (takeTimeCode (after ours (takePacket u p lent .answer .unit) between) byte .unit))
 unfolding takeTimeCode afterCode
-greatest-at-wrap u p lent between byte bytes taken later before-wrap works wraps =
+set-at-wrap u p lent between byte (bytes, taken, later, before-wrap, works, wraps) =
     let waits = greatest-tick u p lent bytes taken .1 later in
     let still = waits-on (takePacket u p lent .answer .unit) (waits .0) between (waits .1) before-wrap in
     rw (works, wraps .0, wraps .1, still) (waits .2)

@@ -1,4 +1,4 @@
--- What takes time packets otherwise is shut out: by three packets, worked out apart.
+-- What takes time packets otherwise is shut out: by three packets, worked out apart. And a value that waits until the wrap.
 use mathlib.Core.Path.{_≡_, refl, ap}
 use mathlib.Core.Bool.{true, false}
 use mathlib.Core.Logic.{inl, inr}
@@ -14,15 +14,15 @@ use Rattle.packets.specs.declared.time.Time.{Time as TheTime}
 use Rattle.unit.specs.Some.{some}
 use Rattle.unit.specs.Counters.{countedFor}
 use Rattle.unit.specs.Usable.{usableUnit, usable}
-use Rattle.unit.specs.Clock.{afterTime}
+use Rattle.unit.specs.Clock.{afterTime, afterCode}
 use Rattle.unit.specs.Judge.{judged}
-use Rattle.unit.specs.Calls.{Outcome, takePacket}
-use Rattle.demands.specs.Terminal.{Terminal, ours}
+use Rattle.unit.specs.Calls.{Outcome, takePacket, takeTimeCode}
+use Rattle.demands.specs.Terminal.{Terminal, ours, timeCode, after}
 use Rattle.demands.specs.Demands.{Demand1}
-use Rattle.demands.specs.Preamble.{numberGot, before, MadeOf, MadeIsTaken, TakenIsMade, GreatestTick, TwelveAsBefore}
+use Rattle.demands.specs.Preamble.{numberGot, before, MadeOf, MadeIsTaken, TakenIsMade, GreatestTick, WaitsUntil, GreatestAtWrap, TwelveAsBefore}
 use Rattle.demands.specs.Impostors.{roundsTime, dropsSeconds, countsNothing}
 use Rattle.demands.proofs.Witnesses.{unit, memory, buffer, arrived, lent, tested}
-use Rattle.demands.proofs.PreambleHolds.{made-is-taken}
+use Rattle.demands.proofs.PreambleHolds.{made-is-taken, set-at-wrap}
 use Rattle.demands.proofs.ZeroShown.{told, not-ours}
 
 -- 5 1/2 seconds and 255/256 of a tick; 2^32 seconds more than 5 1/2; and the first without the octet of fraction that it tells of
@@ -34,6 +34,10 @@ higher = 0xFE ∷ 0xF0 ∷ 0x9F ∷ 0x21 ∷ 0x01 ∷ 0x00 ∷ 0x00 ∷ 0x00 ∷
 
 abbrev short : List ℕ
 short = 0xFE ∷ 0xF0 ∷ 0x9F ∷ 0x05 ∷ 0x00 ∷ 0x00 ∷ 0x00 ∷ 0x05 ∷ 0x80 ∷ 0x00 ∷ 0x00 ∷ 0xC6 ∷ []
+
+-- 5 1/2 seconds and 255/256 of a tick, at the wrap
+abbrev later : List ℕ
+later = 0xFE ∷ 0xF0 ∷ 0x9F ∷ 0x24 ∷ 0x00 ∷ 0x00 ∷ 0x00 ∷ 0x00 ∷ 0x05 ∷ 0x80 ∷ 0x00 ∷ 0x00 ∷ 0xFF ∷ 0x42 ∷ []
 
 abbrev et : Outcome → ℕ
 et o = o .answer .unit .clock .elapsed .value
@@ -53,6 +57,17 @@ computed :
     × (usable (unit 0) 8 ≡ true)
 unfolding takePacket bare judged countedFor usable usableUnit readPacket readProtocol readTime afterTime crc mirrored bits remainder message modulo
 computed = (refl, refl, refl, refl, refl, refl, refl, refl, refl, refl, refl, refl)
+
+-- ---- what is said of a value that waits is said of something: it comes to a fresh unit, then Time-Codes 63 and 0
+
+waits-until : WaitsUntil ours (unit 0) (arrived later 1) (lent memory buffer) (timeCode 63 ∷ []) 0
+unfolding takePacket bare judged countedFor usable usableUnit readPacket readProtocol readTime afterTime after takeTimeCode afterCode crc mirrored bits remainder message modulo
+waits-until = (tested later refl, refl, refl, (λ wraps. omega (arith, wraps .1), tt), refl, (refl, refl))
+
+pub greatest-at-wrap : GreatestAtWrap ours
+greatest-at-wrap = (set-at-wrap, (unit 0, arrived later 1, lent memory buffer, timeCode 63 ∷ [], 0, waits-until))
+
+-- ---- impostors
 
 -- the first is made of a time and FF
 abbrev time : TheTime

@@ -132,13 +132,22 @@ BeforeWrap t u (packet p lent ∷ cs) = NotTaken t u p lent × BeforeWrap t (t .
 BeforeWrap t u (timeCode byte ∷ cs) = (Wraps u byte → ⊥) × BeforeWrap t (t .timeCode u byte .unit) cs
 BeforeWrap t u (ticks n ∷ cs) = BeforeWrap t (t .ticks u n .unit) cs
 
--- What waits is ET behind the next wrap, where no other time packet is taken before it.
+-- A packet of bytes that is taken and is to wait, such calls, and a wrap in a unit that is usable.
+abbrev pub WaitsUntil : Terminal → TheUnit → Arrived → Lent → List Call → ℕ → Type 0
+WaitsUntil t u p lent between byte =
+    Digits 256 (p .packet)
+    × (numberGot (t .packet u p lent) ≡ 19)
+    × (octetIn p % 2 ≡ 0)
+    × BeforeWrap t (t .packet u p lent .answer .unit) between
+    × (usableUnit (after t (t .packet u p lent .answer .unit) between) ≡ true)
+    × Wraps (after t (t .packet u p lent .answer .unit) between) byte
+
+-- Then ET behind the wrap is the greatest tick; and there are such calls.
 abbrev pub GreatestAtWrap : Terminal → Type 0
 GreatestAtWrap t =
-    (u : TheUnit) (p : Arrived) (lent : Lent) (between : List Call) (byte : ℕ) → Digits 256 (p .packet) → numberGot (t .packet u p lent) ≡ 19 → octetIn p % 2 ≡ 0
-    → BeforeWrap t (t .packet u p lent .answer .unit) between
-    → usableUnit (after t (t .packet u p lent .answer .unit) between) ≡ true → Wraps (after t (t .packet u p lent .answer .unit) between) byte
-    → IsGreatest p (etOf (t .timeCode (after t (t .packet u p lent .answer .unit) between) byte .unit))
+    ((u : TheUnit) (p : Arrived) (lent : Lent) (between : List Call) (byte : ℕ) → WaitsUntil t u p lent between byte
+    → IsGreatest p (etOf (t .timeCode (after t (t .packet u p lent .answer .unit) between) byte .unit)))
+    × ((u : TheUnit) × (p : Arrived) × (lent : Lent) × (between : List Call) × (byte : ℕ) × WaitsUntil t u p lent between byte)
 
 -- ---- the receiver of before
 
