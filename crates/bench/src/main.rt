@@ -10,7 +10,7 @@ use records::Bench;
 
 // The bench, and what of the log is in the buffer and not used: the bytes from `from` up to `have`. `last` says that no more come, `done` that
 // nothing is left to do.
-#[derive(Drop)]
+#[derive(Clone, Copy)]
 struct State {
     bench: Bench,
     from: usize,

@@ -5,7 +5,7 @@ ghost use Rattle.octets.specs.Numbers.{number, bytes_of, read_number as NumbersÂ
 use crate::copies::copy_part;
 
 // What stands at a place: a number, or nothing that could be answered.
-#[derive(Drop)]
+#[derive(Clone, Copy)]
 pub enum Number {
     Value(u64),
     Refused,

@@ -5,21 +5,21 @@ ghost use Rattle.packets.specs.Ccsds.{ccsds_number_of, unsent_number_of, is_spac
 use crate::reading::End;
 
 // What a packet of protocol 02 is: thrown away, or taken, for the user application of that number.
-#[derive(Drop)]
+#[derive(Clone, Copy)]
 pub enum CcsdsReading {
     NotTaken,
     TakenFor(u8),
 }
 
 // Why nothing is sent.
-#[derive(Drop)]
+#[derive(Clone, Copy)]
 pub enum Unsent {
     WrongSpacePacket,
     OutputTooShort,
 }
 
 // What came of sending: how many bytes the packet has, or why nothing was written.
-#[derive(Drop)]
+#[derive(Clone, Copy)]
 pub enum Sending {
     Sent(usize),
     NotSent(Unsent),

@@ -4,7 +4,7 @@ ghost use Rattle.packets.specs.Instruction.{type_of, code_of, kind_of, is_write 
 ghost use Rattle.packets.specs.Instruction.{reply_address_size as Instruction·reply_address_size, header_size as Instruction·header_size, reply_form as Instruction·reply_form, is_unused as Instruction·is_unused, is_read as Instruction·is_read, is_rmw as Instruction·is_rmw};
 
 // What a command code asks for.
-#[derive(Drop)]
+#[derive(Clone, Copy)]
 pub enum Kind {
     Unused,
     Read,
@@ -68,7 +68,7 @@ const KINDS: [Kind; 16] = [
     Kind::Write,
 ];
 
-#[derive(Drop)]
+#[derive(Clone, Copy)]
 pub struct Instruction {
     pub byte: u8,
 }

@@ -3,7 +3,7 @@ ghost use Rattle.std.specs.Prelude.{◌≡◌, [], ◌≤◌, length};
 ghost use Rattle.packets.specs.Path.{path_of, kept, path_bytes, same_path, same_bytes as Path·same_bytes};
 
 // A path as it is kept: the last `count` of the bytes; what stands before them is zero.
-#[derive(Drop)]
+#[derive(Clone, Copy)]
 pub struct Path {
     pub bytes: [u8; 12],
     pub count: usize,

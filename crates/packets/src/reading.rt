@@ -13,14 +13,14 @@ use crate::path::Path;
 use crate::{header, path};
 
 // How a packet ended.
-#[derive(Drop)]
+#[derive(Clone, Copy)]
 pub enum End {
     Eop,
     Eep,
 }
 
 // Why a packet goes no further.
-#[derive(Drop)]
+#[derive(Clone, Copy)]
 pub enum Refusal {
     Incomplete,
     UnknownProtocol,
@@ -29,7 +29,7 @@ pub enum Refusal {
     HeaderCrc,
 }
 
-#[derive(Drop)]
+#[derive(Clone, Copy)]
 pub enum Reading {
     Refused(Refusal),
     Time,
@@ -37,7 +37,7 @@ pub enum Reading {
 }
 
 // A packet that was read. The path is a command's; any other packet has none.
-#[derive(Drop)]
+#[derive(Clone, Copy)]
 pub struct Packet {
     pub reading: Reading,
     pub path: Path,

@@ -6,21 +6,21 @@ ghost use Rattle.packets.specs.Time.{time_number_of, when_of as Time·when_of, o
 use crate::reading::End;
 
 // When the time that a packet brings is to be taken: at the wrap of the Time-Code, or at once.
-#[derive(Drop)]
+#[derive(Clone, Copy)]
 pub enum When {
     AtWrap,
     AtOnce,
 }
 
 // What a time packet says: the epoch code (9F or AF), when to take the time, and the time: seconds in 32 bits, their fraction in 24.
-#[derive(Drop)]
+#[derive(Clone, Copy)]
 pub struct Time {
     pub epoch: u8,
     pub when: When,
     pub value: u64,
 }
 
-#[derive(Drop)]
+#[derive(Clone, Copy)]
 pub enum TimeReading {
     ThrownAway,
     Taken(Time),

@@ -7,7 +7,7 @@ use packets::Path;
 use unit::{Clock, Elapsed, Fields, Owner, Unit, Waiting, Window, Windows};
 
 // How far the text has got: nothing printed, the heading printed, all printed.
-#[derive(Drop)]
+#[derive(Clone, Copy)]
 pub enum Stage {
     Fresh,
     Running,
@@ -27,7 +27,7 @@ impl Stage {
 }
 
 // What goes from part to part: how far the text has got, the unit, the number of records so far and of the bytes that they took.
-#[derive(Drop)]
+#[derive(Clone, Copy)]
 pub struct Bench {
     pub stage: Stage,
     pub unit: Unit,

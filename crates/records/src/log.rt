@@ -16,7 +16,7 @@ use std::num::wrapping_add_u64;
 use unit::{Answer, Unit};
 
 // What a call answers: the bench after it, how many bytes of the log it used, and how many of the buffer it wrote.
-#[derive(Drop)]
+#[derive(Clone, Copy)]
 pub struct Ran {
     pub bench: Bench,
     pub used: usize,
@@ -24,7 +24,7 @@ pub struct Ran {
 }
 
 // What is printed next: the heading, the line of an item, the last line, or nothing.
-#[derive(Drop)]
+#[derive(Clone, Copy)]
 enum Next {
     Heading,
     Line(Item),
@@ -33,7 +33,7 @@ enum Next {
 }
 
 // What a step answers: the bench after it, how many bytes of the log it used, and the place behind its text.
-#[derive(Drop)]
+#[derive(Clone, Copy)]
 struct Said {
     bench: Bench,
     used: usize,

@@ -6,7 +6,7 @@ ghost use Rattle.records.specs.Record.{is_right as Record·is_right};
 use packets::End;
 
 // What a record asks for: a packet with its end, its link and its length, a Time-Code, or ticks.
-#[derive(Drop)]
+#[derive(Clone, Copy)]
 pub enum Item {
     Packet(End, u8, u16),
     TimeCode(u8),
@@ -27,7 +27,7 @@ impl Item {
 }
 
 // What bytes begin with: a whole record, a wrong one, or too few bytes to tell or to be whole.
-#[derive(Drop)]
+#[derive(Clone, Copy)]
 pub enum Record {
     Whole(Item),
     Wrong,

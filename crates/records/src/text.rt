@@ -18,7 +18,7 @@ pub(crate) fn put(out: &mut [u8], at: usize, text: &[u8]) -> usize
 }
 
 // A number in decimal with one byte behind it, as it is spelt: what stands from `from` on.
-#[derive(Drop)]
+#[derive(Clone, Copy)]
 struct Spelt {
     text: [u8; 21],
     from: usize,

@@ -5,7 +5,7 @@ use packets::End;
 use unit::{Answer, Clock, Elapsed, Fate, Fields, Owner, Told, Unit, Waiting, Window};
 
 // The unit as the last line left it, and how much of memory is lent to it.
-#[derive(Drop)]
+#[derive(Clone, Copy)]
 pub(crate) struct State {
     pub(crate) unit: Unit,
     pub(crate) size: usize,

@@ -12,7 +12,7 @@ use crate::{act, clock};
 use packets::{End, Header, Path};
 
 // The unit after the call, what became of it, and how many bytes of the reply buffer are the reply.
-#[derive(Drop)]
+#[derive(Clone, Copy)]
 pub struct Answer {
     pub unit: Unit,
     pub fate: Fate,

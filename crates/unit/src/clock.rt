@@ -5,20 +5,20 @@ ghost use Rattle.unit.specs.Clock.{time_code_written, after_code, after_ticks, a
 use packets::{Time, When};
 
 // A time, seconds in 32 bits and their fraction in 24, with its epoch code.
-#[derive(Drop)]
+#[derive(Clone, Copy)]
 pub struct Elapsed {
     pub value: u64,
     pub epoch: u8,
 }
 
-#[derive(Drop)]
+#[derive(Clone, Copy)]
 pub enum Waiting {
     NoValue,
     Value(Elapsed),
 }
 
 // The last Time-Code, ET, and a value that waits for the Time-Code's wrap.
-#[derive(Drop)]
+#[derive(Clone, Copy)]
 pub struct Clock {
     pub last: u8,
     pub elapsed: Elapsed,

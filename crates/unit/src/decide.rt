@@ -235,7 +235,7 @@ fn data_crc(bytes: &[u8], wanted: usize, end: End) -> u8
 // ---- the plan
 
 // What is to be done. Places in memory and in the packet count from 0.
-#[derive(Drop)]
+#[derive(Clone, Copy)]
 pub enum Action {
     Nothing,
     // `count` bytes of memory from `at` on are answered; or its byte at `at`, `count` times.
@@ -255,7 +255,7 @@ pub enum Action {
 }
 
 // The fate; the status that is due, also where fate 3 carries none; the action; and the length of the reply, 0 where there is none.
-#[derive(Drop)]
+#[derive(Clone, Copy)]
 pub struct Plan {
     pub fate: Fate,
     pub status: Status,

@@ -5,7 +5,7 @@ ghost use Rattle.unit.specs.Fate.{byte_of, is_success as Fate·is_success, fate_
 use packets::Refusal;
 
 // What a command is told: that it was obeyed, or the first check that it did not pass.
-#[derive(Drop)]
+#[derive(Clone, Copy)]
 pub enum Status {
     Success,
     UnusedCode,
@@ -25,7 +25,7 @@ pub enum Status {
 }
 
 // What became of a call.
-#[derive(Drop)]
+#[derive(Clone, Copy)]
 pub enum Fate {
     TimeChanged,
     Unusable,
@@ -40,7 +40,7 @@ pub enum Fate {
 }
 
 // The status that a fate carries, if it carries one.
-#[derive(Drop)]
+#[derive(Clone, Copy)]
 pub enum Told {
     Nothing,
     Byte(u8),

@@ -9,7 +9,7 @@ use crate::owner::Owner;
 use packets::Path;
 
 // The values as held. What a read shows of the owner, the links and the Time-Code is not held here.
-#[derive(Drop)]
+#[derive(Clone, Copy)]
 pub struct Fields {
     // Protocol 0: vendor and product, version, status, Active Links, Link Information, unit vendor and product, unit serial.
     pub vendor: u32,
@@ -26,7 +26,7 @@ pub struct Fields {
 }
 
 // What may be done with a field besides reading it; nothing at all where it is missing from our table.
-#[derive(Drop)]
+#[derive(Clone, Copy)]
 pub(crate) enum Right {
     Missing,
     ReadOnly,

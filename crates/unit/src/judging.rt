@@ -15,14 +15,14 @@ use crate::unit::Unit;
 use packets::{End, Header, Path, Reading, Time, TimeReading};
 
 // How long memory and reply buffer are.
-#[derive(Drop)]
+#[derive(Clone, Copy)]
 pub struct Sizes {
     pub memory: usize,
     pub reply: usize,
 }
 
 // What a packet comes to.
-#[derive(Drop)]
+#[derive(Clone, Copy)]
 pub enum Ruling {
     // Its fate is all: 1, 2, 11 to 16.
     Ends(Fate),
@@ -33,7 +33,7 @@ pub enum Ruling {
 }
 
 // The path is that of a command's reply address; any other packet has none.
-#[derive(Drop)]
+#[derive(Clone, Copy)]
 pub struct Judgement {
     pub ruling: Ruling,
     pub path: Path,

@@ -5,7 +5,7 @@ ghost use Rattle.unit.specs.Owner.{is_owner, unowned, claimed, swapped};
 use packets::Path;
 
 // Device ID, 0 where nobody owns the unit; and initiator address, reply path and link of the claim.
-#[derive(Drop)]
+#[derive(Clone, Copy)]
 pub struct Owner {
     pub device: u32,
     pub initiator: u8,

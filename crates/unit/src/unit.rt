@@ -9,7 +9,7 @@ use crate::windows::{Question, Windows, any_window};
 
 // By value: a call takes the unit and answers the unit after it. `logical` is its logical address, `number` its time protocol number,
 // `links` its link count. Memory is lent on each call.
-#[derive(Drop)]
+#[derive(Clone, Copy)]
 pub struct Unit {
     pub logical: u8,
     pub key: u8,

@@ -7,7 +7,7 @@ use crate::whole::smaller;
 use packets::Kind;
 
 // The bytes from `start` on and below `end`, and the rights to them.
-#[derive(Drop)]
+#[derive(Clone, Copy)]
 pub struct Window {
     pub start: usize,
     pub end: usize,
@@ -16,7 +16,7 @@ pub struct Window {
 }
 
 // The first `count` of the table are in use.
-#[derive(Drop)]
+#[derive(Clone, Copy)]
 pub struct Windows {
     pub table: [Window; 16],
     pub count: usize,
@@ -24,7 +24,7 @@ pub struct Windows {
 
 // What a window is asked: whether it ends past a memory of that length; whether it holds the span of that size at that address, with
 // the right that the kind of command wants.
-#[derive(Drop)]
+#[derive(Clone, Copy)]
 pub(crate) enum Question {
     EndsPast(usize),
     Allows(Kind, u32, u32),
