@@ -7,4 +7,3 @@ pub mod HeaderLaws
 pub mod ReplyLaws
 pub mod TimeLaws
 pub mod PreambleLaws
-pub mod CcsdsLaws

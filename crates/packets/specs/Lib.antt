@@ -4,4 +4,3 @@ pub mod Header
 pub mod Reading
 pub mod Reply
 pub mod Time
-pub mod Ccsds

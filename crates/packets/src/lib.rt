@@ -1,6 +1,7 @@
 // Layer 2, packets: what bytes mean, read and written. Nothing here knows of a unit. Every public function takes any input, and promises
 // an equation for what it returns and what it leaves.
-mod ccsds;
+#![tactic(auto)]
+
 mod header;
 mod instruction;
 mod path;
@@ -8,7 +9,6 @@ mod reading;
 mod reply;
 mod time;
 
-pub use ccsds::{CcsdsReading, Sending, Unsent, read_ccsds, space_packet, write_ccsds};
 pub use header::Header;
 pub use instruction::{Instruction, Kind};
 pub use path::Path;

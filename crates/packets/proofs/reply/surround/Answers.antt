@@ -1,0 +1,54 @@
+-- `packets::reply::surround` meets its contract: path and header in front of the data, and their CRC behind.
+use mathlib.Core.Path.{sym, ◌∙◌}
+use mathlib.Core.List.{◌++◌}
+use Prim.Native.Nat.{◌+◌}
+use native.Mathlib.Omega.{arith}
+use lib.ListN.{length}
+use Rattle.octets.specs.Places.{part}
+use Rattle.octets.proofs.PlaceLaws.{length_part}
+use Rattle.packets.specs.Instruction.{is_write}
+use Rattle.packets.specs.Path.{path_bytes}
+use Rattle.packets.specs.Reply.{reply_head}
+use Rattle.packets.proofs.ReplyLaws.{head_room, length_head, placed_length, data_ended, reply_short, reply_long}
+use Rattle.packets.proofs.reply.surround.Goals as goal
+
+pub write_head-at-requires : goal.write_head-at-requires
+write_head-at-requires c =
+    let a = c.args in
+    head_room (is_write a.header.instruction) (length (path_bytes a.path)) a.count (length a.out.now) c.requires
+
+pub returns-then-is_write : goal.returns-then-is_write
+returns-then-is_write c =
+    let at = c in
+    let a = at.args in
+    let e = sym c.is_write.ensures ∙ c.if-is_write.true in
+    let d = part (length (path_bytes a.path) + 12) a.count a.out.now in
+    rw (reply_short a.path a.header a.status d a.count e) at.write_head-at.ensures.leaves
+
+pub end_data-requires : goal.end_data-requires
+end_data-requires c =
+    let at = c in
+    let a = at.args in
+    let e = sym c.is_write.ensures ∙ c.if-is_write.false in
+    let room = rw e at at.requires in
+    let place = rw e at at.write_head-at.ensures.answers in
+    let x = path_bytes a.path ++ reply_head a.header a.status a.count in
+    let l = length_head a.path a.header a.status a.count e in
+    let same = placed_length x a.out.now at.write_head-at.ensures.leaves (omega arith) in
+    omega arith
+
+pub returns : goal.returns
+returns c =
+    let at = c in
+    let a = at.args in
+    let e = sym c.is_write.ensures ∙ c.if-is_write.false in
+    let room = rw e at at.requires in
+    let place = rw e at at.write_head-at.ensures.answers in
+    let n = a.count in
+    let out = a.out.now in
+    let x = path_bytes a.path ++ reply_head a.header a.status n in
+    let d = part (length (path_bytes a.path) + 12) n out in
+    let l = length_part (length (path_bytes a.path) + 12) n out (omega arith) in
+    rw (reply_long a.path a.header a.status d n e l, ← place)
+    (data_ended x out at.write_head-at.result n (place ∙ sym (length_head a.path a.header a.status n e)) (omega arith)
+    at.write_head-at.ensures.leaves c.end_data.ensures)
