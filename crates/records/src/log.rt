@@ -209,7 +209,7 @@ fn say_item(
 // The call that an item stands for. The body of a packet stands behind seven bytes.
 fn call(item: Item, unit: Unit, log: &[u8], memory: &mut [u8], reply: &mut [u8]) -> Answer
     requires { size_of item ≤ length log.now }
-    ensures { record { answer = result; memory = memory.exit.now; reply = reply.new } ≡ called item log.now unit (record { memory = memory.entry.now; reply = reply.old }) }
+    ensures { record { answer = result; memory = memory.new; reply = reply.new } ≡ called item log.now unit (record { memory = memory.old; reply = reply.old }) }
 {
     match item {
         Item::Packet(end, link, size) => {

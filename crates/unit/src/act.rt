@@ -30,7 +30,7 @@ pub(crate) fn respond(
     reply: &mut [u8],
 )
     requires { Readable plan.action (length memory.now) × (fate_number plan.fate ≡ 20 → Answerable plan.action h path (byte_of plan.status) (length reply.old)) }
-    ensures { reply.new ≡ replied_to plan unit h path link (record { memory = memory.entry.now; reply = reply.old }) }
+    ensures { reply.new ≡ replied_to plan unit h path link (record { memory = memory.now; reply = reply.old }) }
 {
     let fate = plan.fate;
     if fate.number() != 20 {

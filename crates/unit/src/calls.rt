@@ -28,7 +28,7 @@ pub fn take_packet(
     memory: &mut [u8],
     reply: &mut [u8],
 ) -> Answer
-    ensures { record { answer = result; memory = memory.exit.now; reply = reply.new } ≡ Calls·take_packet unit (record { packet = packet.entry.now; end = end; link = link }) (record { memory = memory.entry.now; reply = reply.old }) }
+    ensures { record { answer = result; memory = memory.new; reply = reply.new } ≡ Calls·take_packet unit (record { packet = packet.now; end = end; link = link }) (record { memory = memory.old; reply = reply.old }) }
 {
     let sizes = Sizes {
         memory: memory.len(),
@@ -91,7 +91,7 @@ fn carry_out(
     reply: &mut [u8],
 ) -> Answer
     requires { GrantedBy judgement.ruling judgement.path (length bytes.now) (length memory.old) (length reply.old) }
-    ensures { record { answer = result; memory = memory.exit.now; reply = reply.new } ≡ done judgement unit bytes.now link (record { memory = memory.entry.now; reply = reply.old }) }
+    ensures { record { answer = result; memory = memory.new; reply = reply.new } ≡ done judgement unit bytes.now link (record { memory = memory.old; reply = reply.old }) }
 {
     let path = judgement.path;
     let ruling = judgement.ruling;
@@ -118,7 +118,7 @@ fn follow(
     reply: &mut [u8],
 ) -> Answer
     requires { GrantedTo plan h path (length bytes.now) (length memory.old) (length reply.old) }
-    ensures { record { answer = result; memory = memory.exit.now; reply = reply.new } ≡ acted plan unit h path bytes.now link (record { memory = memory.entry.now; reply = reply.old }) }
+    ensures { record { answer = result; memory = memory.new; reply = reply.new } ≡ acted plan unit h path bytes.now link (record { memory = memory.old; reply = reply.old }) }
 {
     act::respond(plan, unit, h, path, link, memory, reply);
     let action = plan.action;

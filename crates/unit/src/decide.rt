@@ -403,7 +403,7 @@ fn decide_by_data(
     requires kinds { kind ≡ kind_in h }
     requires whole { header_size h.instruction ≤ came }
     requires words { (h.protocol ≢ 0x01) → is_success (data_status_on h (record { bytes = bytes.now; came = came; data_crc = crc }) end) ≡ true → WordsThere (kind_in h) (header_size h.instruction) (length bytes.now) }
-    ensures { result ≡ decided_by_data h path (record { bytes = bytes.entry.now; came = came; data_crc = crc }) (data_status_on h (record { bytes = bytes.entry.now; came = came; data_crc = crc }) end) room }
+    ensures { result ≡ decided_by_data h path (record { bytes = bytes.now; came = came; data_crc = crc }) (data_status_on h (record { bytes = bytes.now; came = came; data_crc = crc }) end) room }
 {
     let from = h.instruction.header_size();
     let k = came - from;
@@ -427,7 +427,7 @@ pub(crate) fn decide(
     room: usize,
 ) -> Plan
     requires { header_size h.instruction ≤ length packet.now }
-    ensures { result ≡ decided unit h path (record { packet = packet.entry.now; end = end; link = link }) room }
+    ensures { result ≡ decided unit h path (record { packet = packet.now; end = end; link = link }) room }
 {
     let kind = h.instruction.kind();
     let first = header_status(unit, h, kind, path, link);

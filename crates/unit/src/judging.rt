@@ -41,7 +41,7 @@ pub struct Judgement {
 
 // Judges a packet, without its end, that came on a link, with memory and a reply buffer of those sizes.
 pub fn judge(unit: Unit, packet: &[u8], end: End, link: u8, sizes: Sizes) -> Judgement
-    ensures { result ≡ judged unit (as_read (record { packet = packet.entry.now; end = end; link = link })) sizes }
+    ensures { result ≡ judged unit (as_read (record { packet = packet.now; end = end; link = link })) sizes }
 {
     let bytes = packets::bare(packet);
     judge_read(unit, bytes, end, link, sizes)
@@ -49,7 +49,7 @@ pub fn judge(unit: Unit, packet: &[u8], end: End, link: u8, sizes: Sizes) -> Jud
 
 // Judges a packet as it is read.
 pub(crate) fn judge_read(unit: Unit, packet: &[u8], end: End, link: u8, sizes: Sizes) -> Judgement
-    ensures { result ≡ judged unit (record { packet = packet.entry.now; end = end; link = link }) sizes }
+    ensures { result ≡ judged unit (record { packet = packet.now; end = end; link = link }) sizes }
 {
     if !unit.is_usable(sizes.memory) {
         return outright(Fate::Unusable);
@@ -87,7 +87,7 @@ fn ruling_on(
     sizes: Sizes,
 ) -> Ruling
     requires { (h : Header-as-Header) → reading ≡ Command h → header_size h.instruction ≤ length packet.now }
-    ensures { result ≡ Judge·ruling_on reading path unit (record { packet = packet.entry.now; end = end; link = link }) sizes }
+    ensures { result ≡ Judge·ruling_on reading path unit (record { packet = packet.now; end = end; link = link }) sizes }
 {
     match reading {
         Reading::Refused(why) => Ruling::Ends(Fate::Unread(why)),

@@ -4,6 +4,8 @@
 //
 // A packet's way: it is judged as it is read (packets::bare), then done. judging says what it comes to and touches nothing; where it is a command, decide makes the
 // plan. calls follows that: act writes the reply, stores, and has what changes in the unit; memory has the two functions that touch lent memory.
+#![tactic(auto)]
+
 mod act;
 mod calls;
 mod clock;

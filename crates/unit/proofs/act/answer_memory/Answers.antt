@@ -1,0 +1,31 @@
+-- `unit::act::answer_memory` meets its contract: the bytes have room in their place, and the reply is written around them.
+use Rattle.octets.specs.Places.{part}
+use Rattle.octets.proofs.PlaceLaws.{length_part}
+use Rattle.packets.proofs.ReplyLaws.{carried_few, carried_room, gathered_reply}
+use Rattle.std.proofs.Common.{arith}
+use Rattle.unit.proofs.act.answer_memory.Goals as goal
+
+pub gather-requires : goal.gather-requires
+gather-requires c =
+    let a = c.args in
+    let w = c.requires in
+    let room = carried_room a.path a.h a.status a.count a.reply.now w.1.0 w.1.1 in
+    (w.0, omega (arith, room, c.data_place.ensures))
+
+pub overflow_cast-count : goal.overflow_cast-count
+overflow_cast-count c =
+    let c4 = c in
+    let a = c4.args in
+    let w = c4.requires in
+    let few = carried_few a.path a.h a.status a.count a.reply.now w.1.0 w.1.1 in
+    omega (arith, few)
+
+pub returns : goal.returns
+returns c =
+    let c4 = c in
+    let c8 = c4 in
+    let a = c8.args in
+    let w = c8.requires in
+    gathered_reply a.path a.h a.status a.count a.reply.now w.1.0 w.1.1 (part a.at a.count a.memory.now)
+    (length_part a.at a.count a.memory.now w.0) (rw c4.data_place.ensures at c4.gather.ensures)
+    c.write_reply_around.ensures.leaves

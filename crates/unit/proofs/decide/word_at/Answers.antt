@@ -1,0 +1,11 @@
+-- `unit::decide::word_at` meets its contract: the part of four bytes is those four.
+use Rattle.octets.specs.Numbers.{number}
+use Rattle.octets.proofs.PlaceLaws.{part_bytes}
+use Rattle.std.proofs.Common.{sym, ap, ◌∙◌}
+use Rattle.unit.proofs.decide.word_at.Goals as goal
+
+pub returns : goal.returns
+returns c =
+    let c4 = c in
+    c.number4.ensures
+    ∙ ap number (sym (part_bytes c4.args.at 3 c4.args.bytes.now c4.requires))
