@@ -1,0 +1,90 @@
+-- `records::log::run` meets its contract: each turn is a step of the run that is promised (LoopLaws).
+use Rattle.std.proofs.Common.{◌≡◌, ℕ, ◌-◌, true, leb, List, length, take, drop, sym, refl, ap, ◌∙◌, arith, rules, leb-true}
+use Rattle.records.specs.Log.{Held}
+use Rattle.records.specs.Run.{next_of, Progress, longest_line, begun}
+use Rattle.records.proofs.LoopLaws.{rest_is, got_next, stops_full, stops_silent, got_all}
+use Rattle.records.proofs.RunLaws.{next_fits}
+use Rattle.records.proofs.log.run.Goals as goal
+
+pub loop-rest-init : goal.loop-rest-init
+loop-rest-init c = (record { same = refl; there = omega arith; inside = omega arith; long = refl; rest = refl }, refl, refl)
+
+pub overflow_sub-out : goal.overflow_sub-out
+overflow_sub-out c = c.loop-rest.invariant.0.inside
+
+pub slice_bounds-rest-start : goal.slice_bounds-rest-start
+slice_bounds-rest-start c = let i = c.loop-rest.invariant.0.there in omega (arith, i)
+
+pub returns-then-is_silence : goal.returns-then-is_silence
+returns-then-is_silence c =
+    let l = c.loop-rest in
+    let a = c.args in
+    let first : Progress = begun (record { bench = a.bench; memory = a.memory.now; reply = a.reply.now }) in
+    let held : Held = record { bench = l.held; memory = l.memory; reply = l.reply } in
+    let all =
+    got_all a.log.now a.last a.out.now first held l.used l.out l.written l.invariant.0
+    (stops_silent a.log.now a.last a.out.now first held l.used l.out l.written l.invariant.0 c.next_of-next.result
+    (c.next_of-next.ensures ∙ ap (λ (s : List ℕ). next_of l.held.stage s a.last) (rest_is a.log.now l.used))
+    (sym c.is_silence.ensures ∙ c.if-is_silence.true)) in
+    record { answers = all.0; within = all.1.0; stores = all.1.1.0; replies = all.1.1.1.0; prints = all.1.1.1.1 }
+
+pub say-said-requires : goal.say-said-requires
+say-said-requires c =
+    let l = c.loop-rest in
+    let a = c in
+    let e : leb (longest_line (length l.reply)) (length l.out - l.written) ≡ true = sym c.has_room.ensures ∙ c.loop-rest-test.true in
+    let room = leb-true (longest_line (length l.reply)) (length l.out - l.written) e in
+    let i = l.invariant.0.inside in
+    (omega (arith, room, i), rw c.next_of-next.ensures (next_fits l.held.stage (take (length a.args.log.now - l.used) (drop l.used a.args.log.now)) a.args.last))
+
+-- a turn: what holds after it, and that less is left to do
+pub loop-rest-preserved : goal.loop-rest-preserved
+loop-rest-preserved c =
+    let l = c.loop-rest in
+    let a = c.args in
+    let first : Progress = begun (record { bench = a.bench; memory = a.memory.now; reply = a.reply.now }) in
+    let held : Held = record { bench = l.held; memory = l.memory; reply = l.reply } in
+    let turn =
+    got_next a.log.now a.last a.out.now first held l.used l.out l.written l.invariant.0
+    (sym c.has_room.ensures ∙ c.loop-rest-test.true) c.next_of-next.result
+    (c.next_of-next.ensures ∙ ap (λ (s : List ℕ). next_of l.held.stage s a.last) (rest_is a.log.now l.used))
+    (sym c.is_silence.ensures ∙ c.if-is_silence.false) _ _ _ _ _ _ (rw (rest_is a.log.now l.used) at c.say-said.ensures) in
+    (turn.0, search rules, search rules)
+
+pub loop-rest-smaller : goal.loop-rest-smaller
+loop-rest-smaller c =
+    let l = c.loop-rest in
+    let a = c.args in
+    let first : Progress = begun (record { bench = a.bench; memory = a.memory.now; reply = a.reply.now }) in
+    let held : Held = record { bench = l.held; memory = l.memory; reply = l.reply } in
+    let turn =
+    got_next a.log.now a.last a.out.now first held l.used l.out l.written l.invariant.0
+    (sym c.has_room.ensures ∙ c.loop-rest-test.true) c.next_of-next.result
+    (c.next_of-next.ensures ∙ ap (λ (s : List ℕ). next_of l.held.stage s a.last) (rest_is a.log.now l.used))
+    (sym c.is_silence.ensures ∙ c.if-is_silence.false) _ _ _ _ _ _ (rw (rest_is a.log.now l.used) at c.say-said.ensures) in
+    turn.1
+
+pub overflow_add-used : goal.overflow_add-used
+overflow_add-used c =
+    let l = c.loop-rest in
+    let a = c.args in
+    let first : Progress = begun (record { bench = a.bench; memory = a.memory.now; reply = a.reply.now }) in
+    let held : Held = record { bench = l.held; memory = l.memory; reply = l.reply } in
+    let turn =
+    got_next a.log.now a.last a.out.now first held l.used l.out l.written l.invariant.0
+    (sym c.has_room.ensures ∙ c.loop-rest-test.true) c.next_of-next.result
+    (c.next_of-next.ensures ∙ ap (λ (s : List ℕ). next_of l.held.stage s a.last) (rest_is a.log.now l.used))
+    (sym c.is_silence.ensures ∙ c.if-is_silence.false) _ _ _ _ _ _ (rw (rest_is a.log.now l.used) at c.say-said.ensures) in
+    let there = turn.0.there in
+    record { fits = omega arith }
+
+pub returns : goal.returns
+returns c =
+    let l = c.loop-rest in
+    let a = c.args in
+    let first : Progress = begun (record { bench = a.bench; memory = a.memory.now; reply = a.reply.now }) in
+    let held : Held = record { bench = l.held; memory = l.memory; reply = l.reply } in
+    let all =
+    got_all a.log.now a.last a.out.now first held l.used l.out l.written l.invariant.0
+    (stops_full a.log.now a.last a.out.now first held l.used l.out l.written l.invariant.0 (sym c.has_room.ensures ∙ c.loop-rest-test.false)) in
+    record { answers = all.0; within = all.1.0; stores = all.1.1.0; replies = all.1.1.1.0; prints = all.1.1.1.1 }

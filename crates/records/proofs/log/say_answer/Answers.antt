@@ -1,0 +1,14 @@
+-- `records::log::say_answer` meets its contract: the line fits, since no line is longer than the longest.
+use Rattle.std.proofs.Common.{take, arith, length-take}
+use Rattle.records.proofs.TextLaws.{line_length}
+use Rattle.records.proofs.log.say_answer.Goals as goal
+
+pub slice_bounds-put_line-end : goal.slice_bounds-put_line-end
+slice_bounds-put_line-end c = simp length-take (omega arith)
+
+pub put_line-behind-requires : goal.put_line-behind-requires
+put_line-behind-requires c =
+    let first = c in
+    let shown = take first.args.answer.length first.args.reply.now in
+    let long = line_length c.wrapping_add_u64-items.result first.args.answer.fate shown in
+    omega (arith, length-take first.args.answer.length first.args.reply.now, long, first.requires)
