@@ -75,7 +75,7 @@ JudgeForetells =
     (κs' : _) (again : _) (memory : _) (reply : _) (answer : _) (unit' : _) (again' : _) (end' : _) (link' : _) (memory' : _) (reply' : _)
     → promise-of-judge κs (unit, (bytes, (end, (link, (sizes, tt))))) judgement exit
     → promise-of-take_packet κs' (unit, (again, (end, (link, (memory, (reply, tt)))))) answer (unit', (again', (end', (link', (memory', (reply', tt))))))
-    → now bytes ≡ now again → sizes ≡ record { memory = length (now memory); reply = length (now reply) }
+    → bytes.now ≡ again.now → sizes ≡ record { memory = length memory.now; reply = length reply.now }
     → (answer.fate ≡ fate_in judgement.ruling) × (answer.length ≡ length_in judgement.ruling)
 
 -- What follows are consequences of the equation that the customer named.
