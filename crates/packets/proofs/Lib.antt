@@ -7,3 +7,4 @@ pub mod HeaderLaws
 pub mod ReplyLaws
 pub mod TimeLaws
 pub mod PreambleLaws
+pub mod CcsdsLaws

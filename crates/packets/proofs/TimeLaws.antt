@@ -28,18 +28,18 @@ use Rattle.packets.specs.declared.time.TimeReading.TheVariants.{ThrownAway, Take
 -- ---- tests
 
 -- one of two numbers
-one_of : (a b c : ℕ) → (eqb a b || eqb a c) ≡ true → (a ≡ b) ⊎ (a ≡ c)
+pub one_of : (a b c : ℕ) → (eqb a b || eqb a c) ≡ true → (a ≡ b) ⊎ (a ≡ c)
 one_of a b c = go (eqb a b) refl
   where
     go : (t : Bool) → eqb a b ≡ t → (t || eqb a c) ≡ true → (a ≡ b) ⊎ (a ≡ c)
     go true e w = inl (eqb-true a b e)
     go false e w = inr (eqb-true a c w)
 
-is_one_of : (a b c : ℕ) → (a ≡ b) ⊎ (a ≡ c) → (eqb a b || eqb a c) ≡ true
+pub is_one_of : (a b c : ℕ) → (a ≡ b) ⊎ (a ≡ c) → (eqb a b || eqb a c) ≡ true
 is_one_of a b c (inl e) = rw (eq-eqb a b e)
 is_one_of a b c (inr e) = rw (eq-eqb a c e) (or-true (eqb a b))
 
-ends_well : (end : End) → is_eop end ≡ true → end ≡ Eop
+pub ends_well : (end : End) → is_eop end ≡ true → end ≡ Eop
 ends_well Eop w = refl
 ends_well Eep w = absurd (false≢true w)
 

@@ -4,3 +4,4 @@ pub mod Header
 pub mod Reading
 pub mod Reply
 pub mod Time
+pub mod Ccsds

@@ -2,6 +2,7 @@
 // an equation for what it returns and what it leaves.
 #![tactic(auto)]
 
+mod ccsds;
 mod header;
 mod instruction;
 mod path;
@@ -9,6 +10,7 @@ mod reading;
 mod reply;
 mod time;
 
+pub use ccsds::{CcsdsReading, Sending, Unsent, read_ccsds, space_packet, write_ccsds};
 pub use header::Header;
 pub use instruction::{Instruction, Kind};
 pub use path::Path;

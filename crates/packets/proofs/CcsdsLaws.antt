@@ -153,5 +153,5 @@ module _ (address application : ℕ) (space out : List ℕ) where
   -- what was sent stands first in the output
   pub sent_first : is_space_packet space ≡ true → 4 + length space ≤ length out → take (4 + length space) (sent address application space out) ≡ packet
   sent_first right fits =
-      let whole : take (4 + length space) (placed 0 packet out) ≡ packet = part_placed 0 packet out (omega (arith, fits)) in
-      rw (sent_by (Sent (4 + length space)) (sending_all space (length out) right fits)) whole
+      let size : 4 + length space ≡ length packet = omega arith in
+      rw (sent_by (Sent (4 + length space)) (sending_all space (length out) right fits), size) (part_placed 0 packet out (omega (arith, fits)))
