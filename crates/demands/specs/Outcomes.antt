@@ -45,6 +45,11 @@ use Rattle.packets.proofs.write_reply_around.Reads.{Asked as asked·write_reply_
 use Rattle.packets.proofs.data_place.Reads.{Asked as asked·data_place, Learnt as promise·data_place}
 use Rattle.packets.proofs.time.TimeReading.number.Reads.{Asked as asked·TimeReading·number, Learnt as promise·TimeReading·number}
 use Rattle.packets.proofs.read_time.Reads.{Asked as asked·read_time, Learnt as promise·read_time}
+use Rattle.packets.proofs.ccsds.CcsdsReading.number.Reads.{Asked as asked·CcsdsReading·number, Learnt as promise·CcsdsReading·number}
+use Rattle.packets.proofs.ccsds.Unsent.number.Reads.{Asked as asked·Unsent·number, Learnt as promise·Unsent·number}
+use Rattle.packets.proofs.read_ccsds.Reads.{Asked as asked·read_ccsds, Learnt as promise·read_ccsds}
+use Rattle.packets.proofs.space_packet.Reads.{Asked as asked·space_packet, Learnt as promise·space_packet}
+use Rattle.packets.proofs.write_ccsds.Reads.{Asked as asked·write_ccsds, Learnt as promise·write_ccsds}
 use Rattle.unit.proofs.fate.Status.byte.Reads.{Asked as asked·Status·byte, Learnt as promise·Status·byte}
 use Rattle.unit.proofs.fate.Fate.number.Reads.{Asked as asked·Fate·number, Learnt as promise·Fate·number}
 use Rattle.unit.proofs.fate.Fate.status.Reads.{Asked as asked·Fate·status, Learnt as promise·Fate·status}
@@ -143,6 +148,12 @@ PacketsDetermined =
     × (OneResult promise·data_place)
     × (OneResult promise·TimeReading·number)
     × (OneResult promise·read_time)
+    × (OneResult promise·CcsdsReading·number)
+    × (OneResult promise·Unsent·number)
+    × (OneResult promise·read_ccsds)
+    × (OnePart promise·space_packet (λ κs z. z.now))
+    × (OneResult promise·write_ccsds)
+    × (OneExit promise·write_ccsds (λ κs e. (fourth e).now))  -- the output
 
 abbrev pub UnitDetermined : Type 0
 UnitDetermined =
@@ -229,6 +240,11 @@ PacketsAskNothing =
     × AsksNothing asked·data_place
     × AsksNothing asked·TimeReading·number
     × AsksNothing asked·read_time
+    × AsksNothing asked·CcsdsReading·number
+    × AsksNothing asked·Unsent·number
+    × AsksNothing asked·read_ccsds
+    × AsksNothing asked·space_packet
+    × AsksNothing asked·write_ccsds
 
 abbrev pub UnitAsksNothing : Type 0
 UnitAsksNothing =

@@ -353,7 +353,7 @@ unfolding read_packet read_protocol read_command path_of
 other_protocols = refl
 
 -- in order: a reply is one whatever its CRC; a header with a reply address lacks a byte; types 10 and 11 are read as commands are
-readings-in-order :
+readings_in_order :
     map (λ (p : List ℕ). read_packet p 0xF0) (
     (0xFE ∷ 0x01 ∷ 0x0C ∷ 0x00 ∷ 0x67 ∷ 0x00 ∷ 0x01 ∷ 0x00 ∷ 0xA0 ∷ 0x00 ∷ 0x00 ∷ 0x00 ∷ 0x00 ∷ 0x00 ∷ 0x10 ∷ 0xC9 ∷ [])
     ∷ (0xFE ∷ 0x01 ∷ 0x4D ∷ 0x00 ∷ 0x99 ∷ 0xAA ∷ 0xBB ∷ 0xCC ∷ 0x67 ∷ 0x00 ∷ 0x03 ∷ 0x00 ∷ 0xA0 ∷ 0x00 ∷ 0x00 ∷ 0x10 ∷ 0x00 ∷ 0x00 ∷ 0x10 ∷ [])
@@ -367,7 +367,7 @@ readings-in-order :
     ∷ record { reading = Command (annex_header 0xCC 1 0xA0000000); path = kept [] }
     ∷ []
 unfolding read_packet read_protocol read_command path_of crc mirrored bits remainder message modulo
-readings-in-order = refl
+readings_in_order = refl
 
 -- ---- time packets: one at once, one that waits, and the first ended by EEP (their CRCs were worked out by polynomial division, apart)
 
@@ -386,7 +386,7 @@ unfolding read_time crc mirrored bits remainder message modulo
 time_eep = refl
 
 -- each flaw by itself, with a CRC that is right but in the last two
-time-thrown-away :
+time_thrown_away :
     map (λ (p : List ℕ). read_time p Eop 0x43 0xF0) (
     []
     -- eleven bytes, and thirteen
@@ -414,7 +414,7 @@ time-thrown-away :
     )
     ≡ replicate 16 ThrownAway
 unfolding read_time crc mirrored bits remainder message modulo
-time-thrown-away = refl
+time_thrown_away = refl
 
 -- both epochs go with both times of taking, and the address may be the unit's
 time_taken :
@@ -431,7 +431,7 @@ time_taken = refl
 
 -- ---- with octets added (their CRCs were worked out by polynomial division, apart)
 
-preamble-taken :
+preamble_taken :
     map (λ (p : List ℕ). read_time p Eop 0x43 0xF0) (
     -- an octet of fraction: FF is cut off, not rounded
     (0xFE ∷ 0xF0 ∷ 0x9F ∷ 0x05 ∷ 0x00 ∷ 0x00 ∷ 0x00 ∷ 0x05 ∷ 0x80 ∷ 0x00 ∷ 0x00 ∷ 0xFF ∷ 0xBB ∷ [])
@@ -466,10 +466,10 @@ preamble-taken :
     ∷ Taken (record { epoch = 0x9F; when = AtOnce; value = 0x00000005800000 })
     ∷ []
 unfolding read_time crc mirrored bits remainder message modulo
-preamble-taken = refl
+preamble_taken = refl
 
 -- each flaw by itself
-preamble-thrown-away :
+preamble_thrown_away :
     map (λ (p : List ℕ). read_time p Eop 0x43 0xF0) (
     -- an octet of seconds that is not 0: the one, and each of three
     (0xFE ∷ 0xF0 ∷ 0x9F ∷ 0x21 ∷ 0x01 ∷ 0x00 ∷ 0x00 ∷ 0x00 ∷ 0x05 ∷ 0x80 ∷ 0x00 ∷ 0x00 ∷ 0x70 ∷ [])
@@ -500,7 +500,7 @@ preamble-thrown-away :
     )
     ≡ replicate 18 ThrownAway
 unfolding read_time crc mirrored bits remainder message modulo
-preamble-thrown-away = refl
+preamble_thrown_away = refl
 
 -- and EEP
 preamble_eep : read_time (0xFE ∷ 0xF0 ∷ 0x9F ∷ 0x05 ∷ 0x00 ∷ 0x00 ∷ 0x00 ∷ 0x05 ∷ 0x80 ∷ 0x00 ∷ 0x00 ∷ 0xFF ∷ 0xBB ∷ []) Eep 0x43 0xF0 ≡ ThrownAway

@@ -16,7 +16,7 @@ use Rattle.packets.specs.Path.{without_leading_zeros, or_one_zero, path_of, kept
 
 -- ---- 001, Table 5-3, row by row; then document 01's example that the table does not have, and no reply address
 
-pub table-5-3 :
+pub table_5_3 :
     map path_of (
     (0x00 ∷ 0x00 ∷ 0x00 ∷ 0x00 ∷ [])
     ∷ (0x00 ∷ 0x00 ∷ 0x01 ∷ 0x02 ∷ [])
@@ -40,7 +40,7 @@ pub table-5-3 :
     ∷ []
     ∷ []
 unfolding path_of without_leading_zeros or_one_zero
-table-5-3 = refl
+table_5_3 = refl
 
 path_none : path_of [] ≡ []
 unfolding path_of

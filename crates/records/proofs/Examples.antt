@@ -121,7 +121,7 @@ pub ends_are : map end_number (Eop ∷ Eep ∷ []) ≡ 0 ∷ 1 ∷ []
 ends_are = refl
 
 -- packets with either end, an empty one on link 0, one on link 255; a Time-Code; ticks, high byte first
-pub right-ones :
+pub right_ones :
     map read_record (
     (head 1 3 0 0 2 ++ (0xFE ∷ 0x07 ∷ []))
     ∷ (head 1 4 1 0 2 ++ (0xFE ∷ 0x07 ∷ []))
@@ -139,10 +139,10 @@ pub right-ones :
     ∷ Whole (Ticks 0x01020304)
     ∷ []
 unfolding read_record
-right-ones = refl
+right_ones = refl
 
 -- each flaw by itself
-pub wrong-ones :
+pub wrong_ones :
     map read_record (
     -- the mark: its first byte, its second, both in the other order
     (0x5B ∷ 0x57 ∷ 0x01 ∷ 0x01 ∷ 0x00 ∷ 0x00 ∷ 0x00 ∷ [])
@@ -172,7 +172,7 @@ pub wrong-ones :
     )
     ≡ replicate 19 Wrong
 unfolding read_record
-wrong-ones = refl
+wrong_ones = refl
 
 -- nothing; six bytes of a right head; each kind without the last byte of its body
 pub cut_ones :
@@ -205,10 +205,10 @@ unit_is = (refl, refl, refl, refl)
 pub window_is : used bench_unit.windows ≡ record { start = 0; end = 4096; read = true; write = true } ∷ []
 window_is = refl
 
-pub fields-are :
+pub fields_are :
     let f = bench_unit.fields in
     f.vendor ∷ f.version ∷ f.status ∷ f.active ∷ f.information ∷ f.maker ∷ f.serial ∷ f.base ∷ f.range ∷ f.divider ∷ [] ≡ replicate 10 0
-fields-are = refl
+fields_are = refl
 
 -- no owner; no Time-Code, no time and none that waits; nothing counted
 pub rest_is :

@@ -132,7 +132,7 @@ unfolding take_time_code usable_unit after_code
 code_bits = refl
 
 -- 0, with the time changed; or 1, with nothing changed
-small-fates :
+small_fates :
     (take_time_code (timed 5 0 NoValue) 6 ≡ record { unit = timed 6 0x180000 NoValue; fate = TimeChanged; length = 0 })
     × (take_ticks (timed 5 1 NoValue) 0xFFFFFFFF ≡ record { unit = timed 5 0x100000000 NoValue; fate = TimeChanged; length = 0 })
     -- what waits waits on
@@ -144,7 +144,7 @@ small-fates :
     -- whatever a memory would have to be
     × ((take_ticks (unit 0xF0 4 (windows 1 (window 0 65537 true true ∷ [])) 0 (owner 0 0 0 0) (clock 0 0 NoValue)) 1).fate ≡ TimeChanged)
 unfolding take_time_code take_ticks usable_unit after_code after_ticks
-small-fates = (refl, refl, refl, refl, refl, refl, refl)
+small_fates = (refl, refl, refl, refl, refl, refl, refl)
 
 -- ---- counters and statuses
 

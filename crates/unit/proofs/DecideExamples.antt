@@ -177,7 +177,7 @@ unfolding wanted_count kind_of
 wanted = (refl, refl)
 
 -- where nine bytes are wanted, and where none is: by how many came, and by their CRC
-data-statuses :
+data_statuses :
     (data_status 9 0 9 Eop ≡ Success)
     × (data_status 0 0 0 Eop ≡ Success)
     -- 7: whatever else is wrong
@@ -190,7 +190,7 @@ data-statuses :
     -- 4
     × (data_status 9 1 9 Eop ≡ DataCrc)
 unfolding data_status
-data-statuses = (refl, refl, refl, refl, refl, refl, refl, refl)
+data_statuses = (refl, refl, refl, refl, refl, refl, refl, refl)
 
 -- k counts the bytes behind a header of 16 + 4r bytes: a write with r = 0, with r = 3
 behind : map (λ (byte : ℕ). data_count (memory byte 0 0 8) (record { bytes = []; came = 37; data_crc = 0 })) (write ∷ (write + 3) ∷ []) ≡ 21 ∷ 9 ∷ []
@@ -234,22 +234,22 @@ abbrev row : List ℕ
 row = 0xEE ∷ 0x01 ∷ 0x02 ∷ 0x03 ∷ 0x04 ∷ 0x05 ∷ 0x06 ∷ 0x07 ∷ 0x08 ∷ 0xEE ∷ []
 
 -- a command to fields, whose data begin behind the first byte: a read of L/4; a swap, new value first; a write of the word
-field-effects :
+field_effects :
     (field_action (field read 0 0x80000 16) Success row 1 ≡ ReadFields 0x80000 4)
     × (field_action (field rmw 0 0x08 8) Success row 1 ≡ Swap 0x01020304 0x05060708)
     × (field_action (field verified 0 0x80003 4) Success row 1 ≡ WriteField 0x80003 0x01020304)
     × (field_action (field verified 0 0x80003 4) DataCrc row 1 ≡ Nothing)
 unfolding kind_of
-field-effects = (refl, refl, refl, refl)
+field_effects = (refl, refl, refl, refl)
 
 -- ---- fields: status 10
 
 -- L: a multiple of 4 from 4 to 64; RMW 8
-field-lengths :
+field_lengths :
     (map (is_field_length Read) (0 ∷ 3 ∷ 4 ∷ 5 ∷ 6 ∷ 8 ∷ 60 ∷ 64 ∷ 65 ∷ 68 ∷ []) ≡ false ∷ false ∷ true ∷ false ∷ false ∷ true ∷ true ∷ true ∷ false ∷ false ∷ [])
     × (map (is_field_length Write) (0 ∷ 3 ∷ 4 ∷ 5 ∷ 6 ∷ 8 ∷ 60 ∷ 64 ∷ 65 ∷ 68 ∷ []) ≡ false ∷ false ∷ true ∷ false ∷ false ∷ true ∷ true ∷ true ∷ false ∷ false ∷ [])
     × (map (is_field_length ReadModifyWrite) (0 ∷ 4 ∷ 7 ∷ 8 ∷ 9 ∷ 12 ∷ 16 ∷ []) ≡ false ∷ false ∷ false ∷ true ∷ false ∷ false ∷ false ∷ [])
-field-lengths = (refl, refl, refl)
+field_lengths = (refl, refl, refl)
 
 names :
     -- of the codes 0000 to 1111, with L of 8: 0011, 0111 and 1111

@@ -132,7 +132,7 @@ abbrev to : TheUnit → List ℕ → End → ℕ → ℕ → Fate × List ℕ ×
 to u p end link room = shown (take_packet u (record { packet = p; end = end; link = link }) (record { memory = bytes; reply = replicate room 0xEE }))
 
 -- RMAP commands
-memory-commands :
+memory_commands :
     -- an unused code is 2; no reply was asked for
     (to bench (0xFE ∷ 0x01 ∷ 0x44 ∷ 0x2A ∷ 0x67 ∷ 0x00 ∷ 0x01 ∷ 0x00 ∷ 0x00 ∷ 0x00 ∷ 0x00 ∷ 0x00 ∷ 0x00 ∷ 0x00 ∷ 0x00 ∷ 0xC7 ∷ []) Eop 1 40
     ≡ (NotObeyed UnusedCode, bytes, [], bench.owner))
@@ -241,10 +241,10 @@ memory-commands :
       bench.owner,
     ))
 unfolding take_packet bare judged decided_on decided_by_data planned_for header_status opening_status span_status span_size is_authorised fields_status names_fields row_of wanted_count data_status reply_count stored data_for replied_to changed swapped field_written counted_for usable usable_unit values_of link_information divider_written read_packet read_protocol read_command kind_of without_leading_zeros or_one_zero path_of same_path reply_length replied reply_with crc mirrored bits remainder message modulo
-memory-commands = (refl, refl, refl, refl, refl, refl, refl, refl, refl, refl, refl, refl, refl, refl, refl, refl, refl)
+memory_commands = (refl, refl, refl, refl, refl, refl, refl, refl, refl, refl, refl, refl, refl, refl, refl, refl, refl)
 
 -- plug-and-play commands
-field-commands :
+field_commands :
     -- a field that is not there
     (to bench (0xFE ∷ 0x03 ∷ 0x4C ∷ 0x00 ∷ 0x67 ∷ 0x00 ∷ 0x01 ∷ 0x00 ∷ 0x00 ∷ 0x00 ∷ 0x00 ∷ 0x0B ∷ 0x00 ∷ 0x00 ∷ 0x04 ∷ 0xC3 ∷ []) Eop 1 40
     ≡ (Replied NoSuchField, bytes, 0x67 ∷ 0x03 ∷ 0x0C ∷ 0xF1 ∷ 0xFE ∷ 0x00 ∷ 0x01 ∷ 0x00 ∷ 0x00 ∷ 0x00 ∷ 0x00 ∷ 0x69 ∷ 0x00 ∷ [], bench.owner))
@@ -317,13 +317,13 @@ field-commands :
       owned.owner,
     ))
 unfolding take_packet bare judged decided_on decided_by_data planned_for header_status opening_status span_status span_size is_authorised fields_status names_fields row_of wanted_count data_status reply_count stored data_for replied_to changed swapped field_written counted_for usable usable_unit values_of link_information divider_written read_packet read_protocol read_command kind_of without_leading_zeros or_one_zero path_of same_path reply_length replied reply_with crc mirrored bits remainder message modulo
-field-commands = (refl, refl, refl, refl, refl, refl, refl, refl, refl, refl, refl)
+field_commands = (refl, refl, refl, refl, refl, refl, refl, refl, refl, refl, refl)
 
 -- with a zero in front: a plug-and-play packet is read without it, by every unit; nothing else is (document 02, 2)
 abbrev fe : TheUnit
 fe = unit_with 0xFE (owner 0 0 0 0) 0
 
-zero-in-front :
+zero_in_front :
     -- the claim above; its words, its data CRC and their number are those behind the zero
     (to bench (0x00 ∷ 0xFE ∷ 0x03 ∷ 0x5C ∷ 0x00 ∷ 0x67 ∷ 0x00 ∷ 0x01 ∷ 0x00 ∷ 0x00 ∷ 0x00 ∷ 0x00 ∷ 0x08 ∷ 0x00 ∷ 0x00 ∷ 0x08 ∷ 0xA2 ∷ 0x00 ∷ 0x00 ∷ 0x00 ∷ 0x05 ∷ 0x00 ∷ 0x00 ∷ 0x00 ∷ 0x00 ∷ 0xCF ∷ []) Eop 1 40
     ≡ (Replied Success, bytes, 0x67 ∷ 0x03 ∷ 0x1C ∷ 0x00 ∷ 0xFE ∷ 0x00 ∷ 0x01 ∷ 0x00 ∷ 0x00 ∷ 0x00 ∷ 0x04 ∷ 0x97 ∷ 0x00 ∷ 0x00 ∷ 0x00 ∷ 0x00 ∷ 0x00 ∷ [], owned.owner))
@@ -399,7 +399,7 @@ zero-in-front :
     × (to fe (0x00 ∷ 0x03 ∷ 0x5C ∷ 0x00 ∷ 0x67 ∷ 0x00 ∷ 0x01 ∷ 0x00 ∷ 0x00 ∷ 0x00 ∷ 0x00 ∷ 0x08 ∷ 0x00 ∷ 0x00 ∷ 0x08 ∷ 0x2B ∷ 0x00 ∷ 0x00 ∷ 0x00 ∷ 0x05 ∷ 0x00 ∷ 0x00 ∷ 0x00 ∷ 0x00 ∷ 0xCF ∷ []) Eop 1 40
     ≡ (Replied WrongAddress, bytes, 0x67 ∷ 0x03 ∷ 0x1C ∷ 0x0C ∷ 0x00 ∷ 0x00 ∷ 0x01 ∷ 0x00 ∷ 0x00 ∷ 0x00 ∷ 0x00 ∷ 0x79 ∷ 0x00 ∷ [], fe.owner))
 unfolding take_packet bare judged decided_on decided_by_data planned_for header_status opening_status span_status span_size is_authorised fields_status names_fields row_of wanted_count data_status reply_count stored data_for replied_to changed swapped field_written counted_for usable usable_unit values_of link_information divider_written read_packet read_protocol read_command kind_of without_leading_zeros or_one_zero path_of same_path reply_length replied reply_with crc mirrored bits remainder message modulo read_time
-zero-in-front = (refl, refl, refl, refl, refl, refl, refl, refl, refl, refl, refl, refl, refl, refl, refl, refl, refl, refl, refl, refl, refl, refl, refl, refl, refl, refl, refl, refl, refl, refl)
+zero_in_front = (refl, refl, refl, refl, refl, refl, refl, refl, refl, refl, refl, refl, refl, refl, refl, refl, refl, refl, refl, refl, refl, refl, refl, refl, refl, refl, refl, refl, refl, refl)
 
 -- ---- packets with all that they leave: the whole unit, memory and reply buffer. They show that each part of what is given gets to where it
 -- decides: the end, the link, the sender, the place of the data, what is lent. Worked out by hand; the CRCs by a few lines written from the polynomial
@@ -466,7 +466,7 @@ leaving u fate memory reply room = record {
 }
 
 -- ended by EEP, all else right: status 7
-ended-by-eep :
+ended_by_eep :
     -- a verified write keeps memory
     (taking (start near) (0x43 ∷ 0x01 ∷ 0x7C ∷ 0x2A ∷ 0x67 ∷ 0xA1 ∷ 0xB2 ∷ 0x00 ∷ 0x00 ∷ 0x00 ∷ 0x00 ∷ 0x02 ∷ 0x00 ∷ 0x00 ∷ 0x02 ∷ 0x56 ∷ 0x61 ∷ 0x62
     ∷ 0xB8 ∷ []) Eep 1 40
@@ -502,10 +502,10 @@ ended-by-eep :
     × (taking (start near) (0x43 ∷ 0x01 ∷ 0x4C ∷ 0x2B ∷ 0x67 ∷ 0xA1 ∷ 0xB2 ∷ 0x00 ∷ 0x00 ∷ 0x00 ∷ 0x00 ∷ 0x06 ∷ 0x00 ∷ 0x00 ∷ 0x02 ∷ 0x30 ∷ []) Eep 1 40
     ≡ leaving (same near 20) (Replied WrongKey) bytes (0x67 ∷ 0x01 ∷ 0x0C ∷ 0x03 ∷ 0x43 ∷ 0xA1 ∷ 0xB2 ∷ 0x00 ∷ 0x00 ∷ 0x00 ∷ 0x00 ∷ 0xF9 ∷ 0x00 ∷ []) 40)
 unfolding take_packet bare judged decided_on decided_by_data planned_for header_status opening_status span_status span_size is_authorised fields_status names_fields row_of wanted_count data_status reply_count stored data_for replied_to changed swapped field_written counted_for usable usable_unit values_of link_information divider_written read_packet read_protocol read_command kind_of without_leading_zeros or_one_zero path_of same_path reply_length replied reply_with crc mirrored bits remainder message modulo
-ended-by-eep = (refl, refl, refl, refl, refl, refl, refl, refl, refl)
+ended_by_eep = (refl, refl, refl, refl, refl, refl, refl, refl, refl)
 
 -- the owner's writes and swaps
-owner-writes :
+owner_writes :
     -- Time-Code counter: a whole word of 0 resets it
     (taking (start near) (0xFE ∷ 0x03 ∷ 0x7C ∷ 0x00 ∷ 0x67 ∷ 0xA1 ∷ 0xB2 ∷ 0x00 ∷ 0x00 ∷ 0x08 ∷ 0x00 ∷ 0x00 ∷ 0x00 ∷ 0x00 ∷ 0x04 ∷ 0x22 ∷ 0x00 ∷ 0x00
     ∷ 0x00 ∷ 0x00 ∷ 0x00 ∷ []) Eop 1 40
@@ -545,10 +545,10 @@ owner-writes :
     ≡ leaving (same nobody 20) (Replied Success) bytes (0x67 ∷ 0x03 ∷ 0x1C ∷ 0x00 ∷ 0xFE ∷ 0xA1 ∷ 0xB2 ∷ 0x00 ∷ 0x00 ∷ 0x00 ∷ 0x04 ∷ 0xC4 ∷ 0x00 ∷ 0x00
     ∷ 0x00 ∷ 0x05 ∷ 0x96 ∷ []) 40)
 unfolding take_packet bare judged decided_on decided_by_data planned_for header_status opening_status span_status span_size is_authorised fields_status names_fields row_of wanted_count data_status reply_count stored data_for replied_to changed swapped field_written counted_for usable usable_unit values_of link_information divider_written read_packet read_protocol read_command kind_of without_leading_zeros or_one_zero path_of same_path reply_length replied reply_with crc mirrored bits remainder message modulo
-owner-writes = (refl, refl, refl, refl, refl, refl, refl, refl, refl)
+owner_writes = (refl, refl, refl, refl, refl, refl, refl, refl, refl)
 
 -- with a reply address 00 00 07 09, path 07 09: the data stand behind a header of 20 bytes
-behind-a-reply-address :
+behind_a_reply_address :
     -- a verified write
     (taking (start nobody) (0x43 ∷ 0x01 ∷ 0x7D ∷ 0x2A ∷ 0x00 ∷ 0x00 ∷ 0x07 ∷ 0x09 ∷ 0x67 ∷ 0xA1 ∷ 0xB2 ∷ 0x00 ∷ 0x00 ∷ 0x00 ∷ 0x00 ∷ 0x01 ∷ 0x00 ∷ 0x00
     ∷ 0x03 ∷ 0x13 ∷ 0x61 ∷ 0x62 ∷ 0x63 ∷ 0xF0 ∷ []) Eop 2 40
@@ -583,10 +583,10 @@ behind-a-reply-address :
     ≡ leaving (same far 20) (Replied Success) bytes (0x01 ∷ 0x02 ∷ 0x03 ∷ 0x04 ∷ 0x05 ∷ 0x06 ∷ 0x07 ∷ 0x08 ∷ 0x09 ∷ 0x0A ∷ 0x0B ∷ 0x0C ∷ 0x67 ∷ 0x03 ∷ 0x0F
     ∷ 0x00 ∷ 0xFE ∷ 0xA1 ∷ 0xB2 ∷ 0x00 ∷ 0x00 ∷ 0x00 ∷ 0x08 ∷ 0x3A ∷ 0x00 ∷ 0x10 ∷ 0x00 ∷ 0x04 ∷ 0xAB ∷ 0xCD ∷ 0x00 ∷ 0x05 ∷ 0xCC ∷ []) 40)
 unfolding take_packet bare judged decided_on decided_by_data planned_for header_status opening_status span_status span_size is_authorised fields_status names_fields row_of wanted_count data_status reply_count stored data_for replied_to changed swapped field_written counted_for usable usable_unit values_of link_information divider_written read_packet read_protocol read_command kind_of without_leading_zeros or_one_zero path_of same_path reply_length replied reply_with crc mirrored bits remainder message modulo
-behind-a-reply-address = (refl, refl, refl, refl, refl, refl, refl)
+behind_a_reply_address = (refl, refl, refl, refl, refl, refl, refl)
 
 -- what is lent: 8 bytes of memory, and a reply buffer
-left-as-it-was :
+left_as_it_was :
     -- 3: the reply of 8 bytes to a write has no room; nothing is stored or counted
     (taking (start near) (0x43 ∷ 0x01 ∷ 0x7C ∷ 0x2A ∷ 0x67 ∷ 0xA1 ∷ 0xB2 ∷ 0x00 ∷ 0x00 ∷ 0x00 ∷ 0x00 ∷ 0x02 ∷ 0x00 ∷ 0x00 ∷ 0x02 ∷ 0x56 ∷ 0x61 ∷ 0x62
     ∷ 0xB8 ∷ []) Eop 1 7
@@ -611,10 +611,10 @@ left-as-it-was :
     × (taking (start near) (0xFE ∷ 0x00 ∷ []) Eop 1 40
     ≡ leaving (same near 13) (Unread ExtendedProtocol) bytes [] 40)
 unfolding take_packet bare judged decided_on decided_by_data planned_for header_status opening_status span_status span_size is_authorised fields_status names_fields row_of wanted_count data_status reply_count stored data_for replied_to changed swapped field_written counted_for usable usable_unit values_of link_information divider_written read_packet read_protocol read_command kind_of without_leading_zeros or_one_zero path_of same_path reply_length replied reply_with crc mirrored bits remainder message modulo
-left-as-it-was = (refl, refl, refl, refl, refl, refl)
+left_as_it_was = (refl, refl, refl, refl, refl, refl)
 
 -- time packets to time number F3, while another value waits
-time-packets :
+time_packets :
     -- 01: ET is set at once, and nothing waits
     (taking (start nobody) (0x43 ∷ 0xF3 ∷ 0xAF ∷ 0x01 ∷ 0x00 ∷ 0x00 ∷ 0x00 ∷ 0x12 ∷ 0x34 ∷ 0x56 ∷ 0x78 ∷ 0x67 ∷ []) Eop 1 0
     ≡ leaving (station nobody 0xABCD0005 (record { last = 5; elapsed = record { value = 0x12345678; epoch = 0xAF }; waiting = NoValue }) (counting 19)) TimeTaken bytes [] 0)
@@ -625,4 +625,4 @@ time-packets :
     × (taking (start nobody) (0x43 ∷ 0xF3 ∷ 0xAF ∷ 0x01 ∷ 0x00 ∷ 0x00 ∷ 0x00 ∷ 0x12 ∷ 0x34 ∷ 0x56 ∷ 0x78 ∷ 0x67 ∷ []) Eep 1 0
     ≡ leaving (same nobody 16) TimeThrownAway bytes [] 0)
 unfolding take_packet bare judged decided_on decided_by_data planned_for header_status opening_status span_status span_size is_authorised fields_status names_fields row_of wanted_count data_status reply_count stored data_for replied_to changed swapped field_written counted_for usable usable_unit values_of link_information divider_written read_packet read_protocol read_command kind_of without_leading_zeros or_one_zero path_of same_path reply_length replied reply_with crc mirrored bits remainder message modulo read_time after_time
-time-packets = (refl, refl, refl)
+time_packets = (refl, refl, refl)
