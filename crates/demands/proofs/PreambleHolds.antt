@@ -11,7 +11,7 @@ use borrow.Author.Tests.{eqb-true, ne_eqb}
 use lib.Dec.{eqb}
 use lib.ListN.{length, get_or, get_or-eq_default}
 use Rattle.octets.specs.Places.{part}
-use Rattle.octets.specs.Numbers.{number, Digits}
+use Rattle.octets.specs.Numbers.{Digits}
 use Rattle.octets.proofs.NumberLaws.{digits_at}
 use Rattle.packets.specs.Reading.{bare, time_packet, read_packet}
 use Rattle.packets.specs.Time.{when_number, time_packet_of, added_seconds, added_fraction, read_time}

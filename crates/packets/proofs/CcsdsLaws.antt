@@ -1,15 +1,14 @@
 -- Laws of CCSDS packets: what one has passed, that reading gives back the parts of what was made, and what sending leaves.
 use mathlib.Core.Path.{◌≡◌, refl, sym, ap, ◌∙◌}
-use mathlib.Core.Bool.{Bool, true, false, cond, not, ◌&&◌, ◌||◌, false≢true}
+use mathlib.Core.Bool.{Bool, true, false, cond, ◌&&◌, ◌||◌, false≢true}
 use mathlib.Core.Logic.{◌⊎◌}
 use mathlib.Core.List.{List, [], ◌∷◌}
 use Prim.Native.Nat.{ℕ, ◌+◌, ◌<◌, ◌≤◌}
 use native.Mathlib.Omega.{arith}
-use borrow.Author.Tests.{eqb-true, eq-eqb, ltb-true, ltb-false, lt-ltb, le-ltb}
-use lib.Dec.{eqb, ltb}
+use borrow.Author.Tests.{eqb-true, eq-eqb, lt-ltb, le-ltb}
+use lib.Dec.{eqb}
 use lib.ListN.{length, get_or, take, drop, length-drop}
-use Rattle.octets.specs.Places.{part, placed}
-use Rattle.octets.proofs.PlaceLaws.{first_true, second_true, part_placed}
+use Rattle.octets.proofs.PlaceLaws.{second_true, part_placed}
 use Rattle.packets.specs.Reading.{is_eop}
 use Rattle.packets.specs.Ccsds.{version_of, length_field, is_space_packet, ccsds_packet_of, application_at, space_packet_in, is_ccsds_packet, read_ccsds, sending, left_by, sent}
 use Rattle.packets.specs.declared.reading.End.{End}

@@ -2,7 +2,6 @@
 use Rattle.std.proofs.Common.{◌≡◌, [], ◌∷◌, ◌+◌, refl, sym, ◌∙◌, length, arith}
 use Rattle.octets.specs.Places.{placed}
 use Rattle.octets.proofs.PlaceLaws.{copied_done}
-use Rattle.packets.specs.Ccsds.{is_space_packet, ccsds_packet_of, sending, sent}
 use Rattle.packets.specs.declared.ccsds.Sending.TheVariants.{Sent, NotSent}
 use Rattle.packets.specs.declared.ccsds.Unsent.TheVariants.{WrongSpacePacket, OutputTooShort}
 use Rattle.packets.proofs.ReplyLaws.{head_placed}
