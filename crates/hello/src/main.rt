@@ -1,4 +1,6 @@
 // A program of your own: it hands one packet to the unit of the bench, and prints its fate and the length of the reply.
+#![tactic(auto)]
+
 use packets::End;
 
 fn main() {

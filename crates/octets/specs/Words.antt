@@ -1,5 +1,5 @@
 -- What the quicker ways to the CRC go by: a shift register, bytes as one number, and rows added up. Only functions that nobody else can call
--- promise anything in these words; `crc_from` promises `crc_from`.
+-- promise anything in these words; the function `crc_from` promises the definition of that name, in Crc.
 use Rattle.std.specs.Prelude.{List, [], ◌∷◌, ◌++◌, ℕ, zero, suc, ◌+◌, ◌*◌, ◌/◌, ◌%◌, take, drop}
 use Rattle.std.specs.Int.Bits.{bit_xor}
 

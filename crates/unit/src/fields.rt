@@ -85,7 +85,8 @@ pub(crate) fn any_missing(address: u32, count: usize) -> bool
 {
     let mut i = 0;
     while i < count {
-        if row_of(address + i as u32) == MISSING {
+        let missing = row_of(address + i as u32) == MISSING;
+        if missing {
             return true;
         }
         i += 1;

@@ -1,5 +1,5 @@
 -- `records::log::say_answer` meets its contract: the line fits, since no line is longer than the longest.
-use Rattle.std.proofs.Common.{take, arith, length-take}
+use Rattle.std.proofs.Common.{◌≡◌, ◌+◌, ◌%◌, ◌^◌, take, refl, arith, length-take}
 use Rattle.records.proofs.TextLaws.{line_length}
 use Rattle.records.proofs.log.say_answer.Goals as goal
 
@@ -12,3 +12,9 @@ put_line-behind-requires c =
     let shown = take first.args.answer.length first.args.reply.now in
     let long = line_length c.wrapping_add_u64-items.result first.args.answer.fate shown in
     omega (arith, length-take first.args.answer.length first.args.reply.now, long, first.requires)
+
+pub returns : goal.returns
+returns c =
+    let one : c.wrapping_add_u64-items.result ≡ (c.args.bench.items + 1) % 2 ^ 64 = c.wrapping_add_u64-items.ensures.value in
+    let end : c.wrapping_add_u64-offset.result ≡ (c.args.bench.offset + c.args.size) % 2 ^ 64 = c.wrapping_add_u64-offset.ensures.value in
+    (rw (one, end), refl, rw one at c.put_line-behind.ensures)

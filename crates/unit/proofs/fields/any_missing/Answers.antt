@@ -8,11 +8,11 @@ use Rattle.unit.proofs.fields.any_missing.Goals as goal
 pub loop-i-init : goal.loop-i-init
 loop-i-init c = (omega arith, refl)
 
-pub returns-then-row_of-eq-MISSING : goal.returns-then-row_of-eq-MISSING
-returns-then-row_of-eq-MISSING c = let a = c.args in
+pub returns-then-missing : goal.returns-then-missing
+returns-then-missing c = let a = c.args in
     let i = c.loop-i.i in
     let l = named a.address a.count in
-    let e = ap row_of (named_at a.address a.count i (omega arith)) ∙ sym c.row_of.ensures.answers ∙ c.if-row_of-eq-MISSING.true in
+    let e = ap row_of (named_at a.address a.count i (omega arith)) ∙ sym c.row_of-missing.ensures.answers ∙ c.if-missing.true in
     sym (some_hit is_missing l i 0 (rw (length_named a.address a.count) (omega arith)) (eq-eqb _ _ e)) ∙ c.loop-i.invariant.1
 
 pub loop-i-preserved : goal.loop-i-preserved
@@ -21,7 +21,7 @@ loop-i-preserved c =
     let i = c.loop-i.i in
     let l = named a.address a.count in
     let e = ap row_of (named_at a.address a.count i (omega arith)) in
-    let n = ne_eqb (row_of (get_or l i 0)) 15 (λ f. c.if-row_of-eq-MISSING.false (c.row_of.ensures.answers ∙ sym e ∙ f)) in (
+    let n = ne_eqb (row_of (get_or l i 0)) 15 (λ f. c.if-missing.false (c.row_of-missing.ensures.answers ∙ sym e ∙ f)) in (
       omega arith,
       sym (some_miss is_missing l i 0 (rw (length_named a.address a.count) (omega arith)) n) ∙ c.loop-i.invariant.1,
     )
