@@ -2,7 +2,7 @@
 use Rattle.std.proofs.Common.{◌≡◌, ℕ, ◌-◌, true, leb, List, length, take, drop, sym, refl, ap, ◌∙◌, arith, rules, leb-true}
 use Rattle.records.specs.Log.{Held}
 use Rattle.records.specs.Run.{next_of, Progress, longest_line, begun}
-use Rattle.records.proofs.LoopLaws.{rest_is, got_next, stops_full, stops_silent, got_all}
+use Rattle.records.proofs.LoopLaws.{paired, rest_is, got_next, stops_full, stops_silent, got_all}
 use Rattle.records.proofs.RunLaws.{next_fits}
 use Rattle.records.proofs.log.run.Goals as goal
 
@@ -38,8 +38,10 @@ say-said-requires c =
     (omega (arith, room, i), rw c.next_of-next.ensures (next_fits l.held.stage (take (length a.args.log.now - l.used) (drop l.used a.args.log.now)) a.args.last))
 
 -- a turn: what holds after it, and that less is left to do
-pub loop-rest-preserved : goal.loop-rest-preserved
-loop-rest-preserved c =
+turns : goal.loop-rest-preserved × goal.loop-rest-smaller
+turns =
+    paired
+    (λ c.
     let l = c.loop-rest in
     let a = c.args in
     let first : Progress = begun (record { bench = a.bench; memory = a.memory.now; reply = a.reply.now }) in
@@ -49,33 +51,17 @@ loop-rest-preserved c =
     (sym c.has_room.ensures ∙ c.loop-rest-test.true) c.next_of-next.result
     (c.next_of-next.ensures ∙ ap (λ (s : List ℕ). next_of l.held.stage s a.last) (rest_is a.log.now l.used))
     (sym c.is_silence.ensures ∙ c.if-is_silence.false) _ _ _ _ _ _ (rw (rest_is a.log.now l.used) at c.say-said.ensures) in
-    (turn.0, search rules, search rules)
+    ((turn.0, search rules, search rules), turn.1))
+
+pub loop-rest-preserved : goal.loop-rest-preserved
+loop-rest-preserved = turns.0
 
 pub loop-rest-smaller : goal.loop-rest-smaller
-loop-rest-smaller c =
-    let l = c.loop-rest in
-    let a = c.args in
-    let first : Progress = begun (record { bench = a.bench; memory = a.memory.now; reply = a.reply.now }) in
-    let held : Held = record { bench = l.held; memory = l.memory; reply = l.reply } in
-    let turn =
-    got_next a.log.now a.last a.out.now first held l.used l.out l.written l.invariant.0
-    (sym c.has_room.ensures ∙ c.loop-rest-test.true) c.next_of-next.result
-    (c.next_of-next.ensures ∙ ap (λ (s : List ℕ). next_of l.held.stage s a.last) (rest_is a.log.now l.used))
-    (sym c.is_silence.ensures ∙ c.if-is_silence.false) _ _ _ _ _ _ (rw (rest_is a.log.now l.used) at c.say-said.ensures) in
-    turn.1
+loop-rest-smaller = turns.1
 
 pub overflow_add-used : goal.overflow_add-used
 overflow_add-used c =
-    let l = c.loop-rest in
-    let a = c.args in
-    let first : Progress = begun (record { bench = a.bench; memory = a.memory.now; reply = a.reply.now }) in
-    let held : Held = record { bench = l.held; memory = l.memory; reply = l.reply } in
-    let turn =
-    got_next a.log.now a.last a.out.now first held l.used l.out l.written l.invariant.0
-    (sym c.has_room.ensures ∙ c.loop-rest-test.true) c.next_of-next.result
-    (c.next_of-next.ensures ∙ ap (λ (s : List ℕ). next_of l.held.stage s a.last) (rest_is a.log.now l.used))
-    (sym c.is_silence.ensures ∙ c.if-is_silence.false) _ _ _ _ _ _ (rw (rest_is a.log.now l.used) at c.say-said.ensures) in
-    let there = turn.0.there in
+    let there = (loop-rest-preserved c).0.there in
     record { fits = omega arith }
 
 pub returns : goal.returns
