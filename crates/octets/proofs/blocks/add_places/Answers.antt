@@ -13,14 +13,13 @@ loop-j-init c = (search rules, search rules, refl)
 
 pub loop-j-preserved : goal.loop-j-preserved
 loop-j-preserved c =
-    let test = c in
-    let a = test.args in
+    let a = c.args in
     let block = part a.at 127 a.s.now in
     let whole : length block ≡ 127 = length_part a.at 127 a.s.now (search rules) in (
       search rules,
-      simp length-set test.loop-j.invariant.1,
-      rw (← part_at a.at 127 a.s.now test.loop-j.j (search rules))
-          (added_next test.loop-j.sum block test.loop-j.j (search rules) (omega arith) ∙ test.loop-j.invariant.2),
+      simp length-set c.loop-j.invariant.1,
+      rw (← part_at a.at 127 a.s.now c.loop-j.j (search rules))
+          (added_next c.loop-j.sum block c.loop-j.j (search rules) (omega arith) ∙ c.loop-j.invariant.2),
     )
 
 pub returns : goal.returns

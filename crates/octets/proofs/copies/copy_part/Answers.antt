@@ -26,7 +26,6 @@ copy-requires c =
 pub returns : goal.returns
 unfolding copied
 returns c =
-    let at = c in
-    let e = sym at.within.ensures ∙ at.if-not-within.false in
-    let f = sym at.within-2.ensures ∙ at.if-not-within-2.false in
+    let e = sym c.within.ensures ∙ c.if-not-within.false in
+    let f = sym c.within-2.ensures ∙ c.if-not-within-2.false in
     record { answers = rw (e, f); leaves = rw (e, f) c.copy.ensures }

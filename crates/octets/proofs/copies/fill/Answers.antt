@@ -16,6 +16,5 @@ repeat-requires c = leb-true _ _ (sym c.within.ensures ∙ c.if-not-within.false
 pub returns : goal.returns
 unfolding filled
 returns c =
-    let at = c in
-    let e = sym at.within.ensures ∙ at.if-not-within.false in
+    let e = sym c.within.ensures ∙ c.if-not-within.false in
     record { answers = rw e; leaves = rw e c.repeat.ensures }

@@ -19,8 +19,7 @@ move_down-requires c = leb-true _ _ (sym c.within.ensures ∙ c.if-not-within.fa
 
 pub returns : goal.returns
 returns c =
-    let at = c in
-    let a = at.args in
-    let e = sym at.within.ensures ∙ at.if-not-within.false in
+    let a = c.args in
+    let e = sym c.within.ensures ∙ c.if-not-within.false in
     let there = leb-true (a.from + a.count) (length a.s.now) e in
     record { answers = rw e; leaves = c.move_down.ensures ∙ sym (copied_done a.s.now a.from a.count a.s.now 0 there (omega arith)) }

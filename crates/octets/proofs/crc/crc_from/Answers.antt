@@ -9,10 +9,8 @@ use Rattle.octets.proofs.crc.crc_from.Goals as goal
 
 pub returns : goal.returns
 returns c =
-    let blocks = c in
-    let first = blocks in
-    let a = first.args in
+    let a = c.args in
     let count = (length a.bytes.now - 8) % 127 + 8 in
     c.by_words-2.ensures
-    ∙ blocks.sum_of_blocks-sum.ensures
-    ∙ rw (first.by_words-so_far.ensures, sub-zero count) (crc_from_parts a.running a.bytes.now count)
+    ∙ c.sum_of_blocks-sum.ensures
+    ∙ rw (c.by_words-so_far.ensures, sub-zero count) (crc_from_parts a.running a.bytes.now count)

@@ -21,8 +21,7 @@ returns-then-not-fits_width c =
 
 pub returns : goal.returns
 returns c =
-    let at = c in
-    let a = at.args in
+    let a = c.args in
     let copy = c.copy_part.ensures in
-    let f = sym at.fits_width.ensures ∙ at.if-not-fits_width.false in
+    let f = sym c.fits_width.ensures ∙ c.if-not-fits_width.false in
     let bytes = c.bytes8-bytes.ensures in record { answers = write_fits a.dst.now a.at a.width a.n (omega arith) f bytes copy.answers; leaves = write_copied a.dst.now a.at a.width a.n (omega arith) f bytes copy.leaves }

@@ -30,8 +30,7 @@ bounds-table-c c =
 
 pub returns : goal.returns
 returns c =
-    let test = c in
-    sym (crc_from_end test.loop-i.c test.args.bytes.now test.loop-i.i (search rules)) ∙ test.loop-i.invariant.2
+    sym (crc_from_end c.loop-i.c c.args.bytes.now c.loop-i.i (search rules)) ∙ c.loop-i.invariant.2
 
 -- the table is compared as a whole: `at` speaks of that of the CRC of each byte, and what is asked of `next` is about that of the code
 pub loop-i-preserved : goal.loop-i-preserved

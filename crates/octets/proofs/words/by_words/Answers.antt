@@ -48,16 +48,13 @@ loop-left-init c =
 
 pub loop-left-preserved : goal.loop-left-preserved
 loop-left-preserved c =
-    let test = c in
-    let entry = test in
-    let bytes = entry.args.bytes.now in
-    let t = digits_of 256 bytes (λ k. omega (arith, entry.type_inv.bytes k)) in
-    next _ test.loop-left.upper test.loop-left.lower _ bytes test.loop-left.left t (search rules) (search rules) c.word_at-in-loop-left.ensures test.loop-left.invariant
+    let bytes = c.args.bytes.now in
+    let t = digits_of 256 bytes (λ k. omega (arith, c.type_inv.bytes k)) in
+    next _ c.loop-left.upper c.loop-left.lower _ bytes c.loop-left.left t (search rules) (search rules) c.word_at-in-loop-left.ensures c.loop-left.invariant
 
 pub returns : goal.returns
 returns c =
-    let test = c in
-    let bytes = test.args.bytes.now in
+    let bytes = c.args.bytes.now in
     c.reduced.ensures
-    ∙ sym (crc_from_end (crc_of_two test.loop-left.upper test.loop-left.lower) bytes (length bytes - test.loop-left.left) (omega arith))
-    ∙ test.loop-left.invariant.4
+    ∙ sym (crc_from_end (crc_of_two c.loop-left.upper c.loop-left.lower) bytes (length bytes - c.loop-left.left) (omega arith))
+    ∙ c.loop-left.invariant.4

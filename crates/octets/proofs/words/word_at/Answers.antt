@@ -5,5 +5,4 @@ use Rattle.octets.proofs.words.word_at.Goals as goal
 
 pub returns : goal.returns
 returns c =
-    let start = c in
-    c.number8.ensures ∙ word_part start.args.s.now start.args.at start.requires
+    c.number8.ensures ∙ word_part c.args.s.now c.args.at c.requires

@@ -4,15 +4,12 @@ use Rattle.packets.proofs.header.parts.Goals as goal
 
 pub returns : goal.returns
 returns c =
-    let four = c in
-    let two = four in
-    let start = two in
-    let a = start.args in
-    let whole = start.requires.1 in
+    let a = c.args in
+    let whole = c.requires.1 in
     rw (
       c.number3.ensures,
-      four.number4.ensures,
-      two.number2.ensures,
+      c.number4.ensures,
+      c.number2.ensures,
       transaction_bytes a.p.now a.at whole,
       address_bytes a.p.now a.at whole,
       length_bytes a.p.now a.at whole,

@@ -5,6 +5,5 @@ use Rattle.packets.proofs.path.keep.Goals as goal
 
 pub returns : goal.returns
 returns c =
-    let at = c in
-    let address = at.args.address.now in
-    rw (c.path_count-count.ensures, at.copy_part.ensures.leaves, kept_copied address (omega arith))
+    let address = c.args.address.now in
+    rw (c.path_count-count.ensures, c.copy_part.ensures.leaves, kept_copied address (omega arith))

@@ -7,18 +7,15 @@ use Rattle.packets.proofs.path.path_count.Goals as goal
 
 pub returns-then-address-zeros-ne0 : goal.returns-then-address-zeros-ne0
 returns-then-address-zeros-ne0 c =
-    let at = c in
-    let a = at.args.address.now in
-    sym (ap length at.loop-zeros.invariant.1 ∙ path_here a at.loop-zeros.zeros (omega arith) c.if-address-zeros-ne0.true)
+    let a = c.args.address.now in
+    sym (ap length c.loop-zeros.invariant.1 ∙ path_here a c.loop-zeros.zeros (omega arith) c.if-address-zeros-ne0.true)
 
 pub loop-zeros-preserved : goal.loop-zeros-preserved
 loop-zeros-preserved c =
-    let at = c in
-    let a = at.args.address.now in
-    (omega arith, at.loop-zeros.invariant.1 ∙ path_goes_on a at.loop-zeros.zeros (omega arith) c.if-address-zeros-ne0.false)
+    let a = c.args.address.now in
+    (omega arith, c.loop-zeros.invariant.1 ∙ path_goes_on a c.loop-zeros.zeros (omega arith) c.if-address-zeros-ne0.false)
 
 pub returns : goal.returns
 returns c =
-    let at = c in
-    let a = at.args.address.now in
-    sym (ap length at.loop-zeros.invariant.1 ∙ path_last a at.loop-zeros.zeros (omega arith))
+    let a = c.args.address.now in
+    sym (ap length c.loop-zeros.invariant.1 ∙ path_last a c.loop-zeros.zeros (omega arith))

@@ -6,19 +6,16 @@ use Rattle.packets.proofs.path.same_bytes.Goals as goal
 
 pub returns-then-a-i : goal.returns-then-a-i
 returns-then-a-i c =
-    let at = c in
-    let args = at.args in
-    sym (at.loop-i.invariant.3 ∙ same_differs args.a args.b at.loop-i.i (omega arith) (omega arith) c.if-a-i.true)
+    let args = c.args in
+    sym (c.loop-i.invariant.3 ∙ same_differs args.a args.b c.loop-i.i (omega arith) (omega arith) c.if-a-i.true)
 
 pub loop-i-preserved : goal.loop-i-preserved
 loop-i-preserved c =
-    let at = c in
-    let args = at.args in
-    let e = at.loop-i.invariant.3 ∙ same_goes_on args.a args.b at.loop-i.i (omega arith) (omega arith) c.if-a-i.false in
-    (omega arith, at.loop-i.invariant.1, at.loop-i.invariant.2, e)
+    let args = c.args in
+    let e = c.loop-i.invariant.3 ∙ same_goes_on args.a args.b c.loop-i.i (omega arith) (omega arith) c.if-a-i.false in
+    (omega arith, c.loop-i.invariant.1, c.loop-i.invariant.2, e)
 
 pub returns : goal.returns
 returns c =
-    let at = c in
-    let args = at.args in
-    sym (at.loop-i.invariant.3 ∙ same_ends args.a args.b at.loop-i.i (omega arith) (omega arith))
+    let args = c.args in
+    sym (c.loop-i.invariant.3 ∙ same_ends args.a args.b c.loop-i.i (omega arith) (omega arith))

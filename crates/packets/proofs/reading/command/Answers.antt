@@ -8,7 +8,6 @@ use Rattle.packets.proofs.reading.command.Goals as goal
 
 pub returns : goal.returns
 returns c =
-    let at = c in
-    let a = at.args in
+    let a = c.args in
     let e : a.at - 4 ≡ reply_address_size (instruction_at a.packet.now) = omega arith in
-    rw (c.keep-path.ensures, at.parts-header.ensures, e, at.requires.0)
+    rw (c.keep-path.ensures, c.parts-header.ensures, e, c.requires.0)

@@ -16,38 +16,29 @@ returns-then-packet-lt3 c =
 
 pub returns-then-packet_type-eq0 : goal.returns-then-packet_type-eq0
 returns-then-packet_type-eq0 c =
-    let kind = c in
-    let p = kind.args.packet.now in
-    c.refused-then-packet_type-eq0.ensures ∙ read_reply p (omega arith) (sym kind.packet_type.ensures ∙ c.if-packet_type-eq0.true)
+    let p = c.args.packet.now in
+    c.refused-then-packet_type-eq0.ensures ∙ read_reply p (omega arith) (sym c.packet_type.ensures ∙ c.if-packet_type-eq0.true)
 
 pub returns-then-packet-size : goal.returns-then-packet-size
 returns-then-packet-size c =
-    let size = c in
-    let kind = size in
-    let p = kind.args.packet.now in
+    let p = c.args.packet.now in
     c.refused-then-packet-size.ensures
-    ∙ read_cut p (omega arith) (λ e. size.if-packet_type-eq0.false (kind.packet_type.ensures ∙ e)) (omega arith)
+    ∙ read_cut p (omega arith) (λ e. c.if-packet_type-eq0.false (c.packet_type.ensures ∙ e)) (omega arith)
 
 pub returns-then-crc_of-ne0 : goal.returns-then-crc_of-ne0
 returns-then-crc_of-ne0 c =
-    let sum = c in
-    let size = sum in
-    let kind = size in
-    let p = kind.args.packet.now in
-    let n : size.header_size-size.result - 0 ≡ header_size (instruction_at p) = omega arith in
-    let s : crc (take (size.header_size-size.result - 0) p) ≡ crc (take (header_size (instruction_at p)) p) = rw n in
+    let p = c.args.packet.now in
+    let n : c.header_size-size.result - 0 ≡ header_size (instruction_at p) = omega arith in
+    let s : crc (take (c.header_size-size.result - 0) p) ≡ crc (take (header_size (instruction_at p)) p) = rw n in
     c.refused-then-crc_of-ne0.ensures
-    ∙ read_damaged p (omega arith) (λ e. size.if-packet_type-eq0.false (kind.packet_type.ensures ∙ e)) (omega arith)
-    (λ e. c.if-crc_of-ne0.true (sum.crc_of.ensures ∙ s ∙ e))
+    ∙ read_damaged p (omega arith) (λ e. c.if-packet_type-eq0.false (c.packet_type.ensures ∙ e)) (omega arith)
+    (λ e. c.if-crc_of-ne0.true (c.crc_of.ensures ∙ s ∙ e))
 
 pub returns : goal.returns
 returns c =
-    let sum = c in
-    let size = sum in
-    let kind = size in
-    let p = kind.args.packet.now in
-    let n : size.header_size-size.result - 0 ≡ header_size (instruction_at p) = omega arith in
-    let s : crc (take (size.header_size-size.result - 0) p) ≡ crc (take (header_size (instruction_at p)) p) = rw n in
+    let p = c.args.packet.now in
+    let n : c.header_size-size.result - 0 ≡ header_size (instruction_at p) = omega arith in
+    let s : crc (take (c.header_size-size.result - 0) p) ≡ crc (take (header_size (instruction_at p)) p) = rw n in
     c.command.ensures
-    ∙ read_whole p (omega arith) (λ e. size.if-packet_type-eq0.false (kind.packet_type.ensures ∙ e)) (omega arith)
-    (sym s ∙ sym sum.crc_of.ensures ∙ c.if-crc_of-ne0.false)
+    ∙ read_whole p (omega arith) (λ e. c.if-packet_type-eq0.false (c.packet_type.ensures ∙ e)) (omega arith)
+    (sym s ∙ sym c.crc_of.ensures ∙ c.if-crc_of-ne0.false)

@@ -7,10 +7,9 @@ use Rattle.packets.proofs.reply.end_data.Goals as goal
 
 pub returns : goal.returns
 returns c =
-    let sum = c in
-    let a = sum.args in
+    let a = c.args in
     let e : a.at + a.count - a.at ≡ a.count = omega arith in
-    let k = rw e at sum.crc_of-k.ensures in
+    let k = rw e at c.crc_of-k.ensures in
     c.fill.ensures.leaves
-    ∙ filled_done a.out.now (a.at + a.count) 1 sum.crc_of-k.result (omega arith)
+    ∙ filled_done a.out.now (a.at + a.count) 1 c.crc_of-k.result (omega arith)
     ∙ rw k

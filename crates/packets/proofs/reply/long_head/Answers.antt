@@ -3,5 +3,4 @@ use Rattle.packets.proofs.reply.long_head.Goals as goal
 
 pub returns : goal.returns
 returns c =
-    let made = c in
-    rw (c.crc_of.ensures, made.bytes3-n.ensures, made.start_of-s.ensures)
+    rw (c.crc_of.ensures, c.bytes3-n.ensures, c.start_of-s.ensures)

@@ -13,15 +13,13 @@ returns-then-is_write c =
 pub returns-then-carries_data : goal.returns-then-carries_data
 unfolding reply_length
 returns-then-carries_data c =
-    let at = c in
-    let e = sym at.is_write.ensures ∙ at.if-is_write.false in
-    let f = sym at.carries_data.ensures ∙ c.if-carries_data.true in
+    let e = sym c.is_write.ensures ∙ c.if-is_write.false in
+    let f = sym c.carries_data.ensures ∙ c.if-carries_data.true in
     rw (c.size-then-carries_data.ensures.answers, f, e) (omega arith)
 
 pub returns : goal.returns
 unfolding reply_length
 returns c =
-    let at = c in
-    let e = sym at.is_write.ensures ∙ at.if-is_write.false in
-    let f = sym at.carries_data.ensures ∙ c.if-carries_data.false in
+    let e = sym c.is_write.ensures ∙ c.if-is_write.false in
+    let f = sym c.carries_data.ensures ∙ c.if-carries_data.false in
     rw (c.size-2.ensures.answers, f, e)

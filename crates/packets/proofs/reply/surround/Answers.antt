@@ -19,36 +19,33 @@ write_head-at-requires c =
 
 pub returns-then-is_write : goal.returns-then-is_write
 returns-then-is_write c =
-    let at = c in
-    let a = at.args in
+    let a = c.args in
     let e = sym c.is_write.ensures ∙ c.if-is_write.true in
     let d = part (length (path_bytes a.path) + 12) a.count a.out.now in
-    rw (reply_short a.path a.header a.status d a.count e) at.write_head-at.ensures.leaves
+    rw (reply_short a.path a.header a.status d a.count e) c.write_head-at.ensures.leaves
 
 pub end_data-requires : goal.end_data-requires
 end_data-requires c =
-    let at = c in
-    let a = at.args in
+    let a = c.args in
     let e = sym c.is_write.ensures ∙ c.if-is_write.false in
-    let room = rw e at at.requires in
-    let place = rw e at at.write_head-at.ensures.answers in
+    let room = rw e at c.requires in
+    let place = rw e at c.write_head-at.ensures.answers in
     let x = path_bytes a.path ++ reply_head a.header a.status a.count in
     let l = length_head a.path a.header a.status a.count e in
-    let same = placed_length x a.out.now at.write_head-at.ensures.leaves (omega arith) in
+    let same = placed_length x a.out.now c.write_head-at.ensures.leaves (omega arith) in
     omega arith
 
 pub returns : goal.returns
 returns c =
-    let at = c in
-    let a = at.args in
+    let a = c.args in
     let e = sym c.is_write.ensures ∙ c.if-is_write.false in
-    let room = rw e at at.requires in
-    let place = rw e at at.write_head-at.ensures.answers in
+    let room = rw e at c.requires in
+    let place = rw e at c.write_head-at.ensures.answers in
     let n = a.count in
     let out = a.out.now in
     let x = path_bytes a.path ++ reply_head a.header a.status n in
     let d = part (length (path_bytes a.path) + 12) n out in
     let l = length_part (length (path_bytes a.path) + 12) n out (omega arith) in
     rw (reply_long a.path a.header a.status d n e l, ← place)
-    (data_ended x out at.write_head-at.result n (place ∙ sym (length_head a.path a.header a.status n e)) (omega arith)
-    at.write_head-at.ensures.leaves c.end_data.ensures)
+    (data_ended x out c.write_head-at.result n (place ∙ sym (length_head a.path a.header a.status n e)) (omega arith)
+    c.write_head-at.ensures.leaves c.end_data.ensures)

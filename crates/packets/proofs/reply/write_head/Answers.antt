@@ -8,26 +8,20 @@ use Rattle.packets.proofs.reply.write_head.Goals as goal
 
 pub returns-then-is_write : goal.returns-then-is_write
 returns-then-is_write c =
-    let made = c in
-    let test = made in
-    let size = test in
-    let a = size.args in
-    let e = sym test.is_write.ensures ∙ test.if-is_write.true in
-    let room = rw e at size.requires in
+    let a = c.args in
+    let e = sym c.is_write.ensures ∙ c.if-is_write.true in
+    let room = rw e at c.requires in
     let x = path_bytes a.path in
-    let out = head_placed x made.short_head-head.result a.out.now size.size-size.result 8 size.size-size.ensures.answers
-    (ap length made.short_head-head.ensures) (omega arith) test.write_path.ensures c.copy_part.ensures.leaves in
-    record { answers = rw (e, size.size-size.ensures.answers); leaves = rw (e, ← made.short_head-head.ensures) out }
+    let out = head_placed x c.short_head-head.result a.out.now c.size-size.result 8 c.size-size.ensures.answers
+    (ap length c.short_head-head.ensures) (omega arith) c.write_path.ensures c.copy_part.ensures.leaves in
+    record { answers = rw (e, c.size-size.ensures.answers); leaves = rw (e, ← c.short_head-head.ensures) out }
 
 pub returns : goal.returns
 returns c =
-    let made = c in
-    let test = made in
-    let size = test in
-    let a = size.args in
-    let e = sym test.is_write.ensures ∙ test.if-is_write.false in
-    let room = rw e at size.requires in
+    let a = c.args in
+    let e = sym c.is_write.ensures ∙ c.if-is_write.false in
+    let room = rw e at c.requires in
     let x = path_bytes a.path in
-    let out = head_placed x made.long_head-head.result a.out.now size.size-size.result 12 size.size-size.ensures.answers
-    (ap length made.long_head-head.ensures) (omega arith) test.write_path.ensures c.copy_part-2.ensures.leaves in
-    record { answers = rw (e, size.size-size.ensures.answers); leaves = rw (e, ← made.long_head-head.ensures) out }
+    let out = head_placed x c.long_head-head.result a.out.now c.size-size.result 12 c.size-size.ensures.answers
+    (ap length c.long_head-head.ensures) (omega arith) c.write_path.ensures c.copy_part-2.ensures.leaves in
+    record { answers = rw (e, c.size-size.ensures.answers); leaves = rw (e, ← c.long_head-head.ensures) out }

@@ -16,36 +16,33 @@ returns-then-not-fits c =
 
 pub overflow_cast-n : goal.overflow_cast-n
 overflow_cast-n c =
-    let test = c in
-    let count = test.carried_count-n in
-    let a = test.args in
+    let count = c.carried_count-n in
+    let a = c.args in
     let out = a.out.now in
     let d = replicate a.count a.byte in
-    let fits = test.fits in
-    let small = reply_small a.path a.header a.status a.count count.result count.ensures out fits.ensures (test.if-not-fits.false) in
+    let fits = c.fits in
+    let small = reply_small a.path a.header a.status a.count count.result count.ensures out fits.ensures (c.if-not-fits.false) in
     omega arith
 
 pub surround-requires : goal.surround-requires
 surround-requires c =
-    let test = c in
-    let count = test.carried_count-n in
-    let a = test.args in
+    let count = c.carried_count-n in
+    let a = c.args in
     let out = a.out.now in
     let d = replicate a.count a.byte in
-    let fits = test.fits in
-    let room = reply_room a.path a.header a.status a.count count.result count.ensures out fits.ensures (test.if-not-fits.false) in
+    let fits = c.fits in
+    let room = reply_room a.path a.header a.status a.count count.result count.ensures out fits.ensures (c.if-not-fits.false) in
     let same = filled_length out c.data_place.result count.result a.byte c.fill.ensures.leaves in
     omega arith
 
 pub returns : goal.returns
 returns c =
-    let test = c in
-    let count = test.carried_count-n in
-    let a = test.args in
+    let count = c.carried_count-n in
+    let a = c.args in
     let out = a.out.now in
     let d = replicate a.count a.byte in
-    let fits = test.fits in
-    let yes = test.if-not-fits.false in
+    let fits = c.fits in
+    let yes = c.if-not-fits.false in
     let place = c.data_place in
     let both = reply_filled a.path a.header a.status a.count count.result count.ensures out fits.ensures a.byte place.result yes place.ensures
     c.fill.ensures.leaves c.surround.ensures in

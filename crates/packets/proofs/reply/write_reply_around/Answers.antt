@@ -28,10 +28,9 @@ surround-requires c =
 
 pub returns : goal.returns
 returns c =
-    let test = c in
-    let count = test.carried_count-n in
-    let a = test.args in
-    let fits = test.fits in
+    let count = c.carried_count-n in
+    let a = c.args in
+    let fits = c.fits in
     let both = reply_around a.path a.header a.status a.count count.result count.ensures a.out.now fits.ensures
-    (test.if-not-fits.false) c.surround.ensures in
+    (c.if-not-fits.false) c.surround.ensures in
     record { answers = both.0; leaves = both.1 }

@@ -14,21 +14,14 @@ returns-then-p-lt12 c =
 
 pub returns-then-p-seconds : goal.returns-then-p-seconds
 returns-then-p-seconds c =
-    let fraction = c in
-    let seconds = fraction in
-    let p = seconds.args.p.now in
+    let p = c.args.p.now in
     rw (ne_eqb (length p) (12 + added_seconds p + added_fraction p)
-    (λ e. c.if-p-seconds.true (omega (arith, e, seconds.added_seconds-seconds.ensures, fraction.added_fraction.ensures))))
+    (λ e. c.if-p-seconds.true (omega (arith, e, c.added_seconds-seconds.ensures, c.added_fraction.ensures))))
 
 pub returns : goal.returns
 returns c =
-    let sum = c in
-    let zeros = sum in
-    let eop = zeros in
-    let fraction = eop in
-    let seconds = fraction in
-    let p = seconds.args.p.now in
+    let p = c.args.p.now in
     let size : length p ≡ 12 + added_seconds p + added_fraction p =
-    omega (arith, eop.if-p-seconds.false, seconds.added_seconds-seconds.ensures, fraction.added_fraction.ensures) in
-    let more : 4 + seconds.added_seconds-seconds.result - 4 ≡ added_seconds p = omega (arith, seconds.added_seconds-seconds.ensures) in
-    rw (eq-eqb _ _ size, sum.crc_of-sum.ensures, eop.is_eop-eop.ensures, zeros.worth_nothing-zeros.ensures, more)
+    omega (arith, c.if-p-seconds.false, c.added_seconds-seconds.ensures, c.added_fraction.ensures) in
+    let more : 4 + c.added_seconds-seconds.result - 4 ≡ added_seconds p = omega (arith, c.added_seconds-seconds.ensures) in
+    rw (eq-eqb _ _ size, c.crc_of-sum.ensures, c.is_eop-eop.ensures, c.worth_nothing-zeros.ensures, more)

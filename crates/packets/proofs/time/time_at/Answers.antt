@@ -9,7 +9,5 @@ use Rattle.packets.proofs.time.time_at.Goals as goal
 
 pub returns : goal.returns
 returns c =
-    let when = c in
-    let seconds = when in
-    let p = seconds.args.p.now in
-    rw (c.number7.ensures, when.when_of.ensures, seconds.added_seconds-at.ensures, div-one (get_or p 3 0), part_bytes (4 + added_seconds p) 6 p (omega arith))
+    let p = c.args.p.now in
+    rw (c.number7.ensures, c.when_of.ensures, c.added_seconds-at.ensures, div-one (get_or p 3 0), part_bytes (4 + added_seconds p) 6 p (omega arith))

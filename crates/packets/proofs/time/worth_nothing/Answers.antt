@@ -9,15 +9,13 @@ use Rattle.packets.proofs.time.worth_nothing.Goals as goal
 
 pub returns-then-s-i-ne0 : goal.returns-then-s-i-ne0
 returns-then-s-i-ne0 c =
-    let at = c in
-    let s = at.args.s.now in
-    sym (ne_eqb (number s) 0 (λ z. nothing_ends s at.loop-i.i c.loop-i-test.true c.if-s-i-ne0.true (sym at.loop-i.invariant.1 ∙ z)))
+    let s = c.args.s.now in
+    sym (ne_eqb (number s) 0 (λ z. nothing_ends s c.loop-i.i c.loop-i-test.true c.if-s-i-ne0.true (sym c.loop-i.invariant.1 ∙ z)))
 
 pub loop-i-preserved : goal.loop-i-preserved
 loop-i-preserved c =
-    let at = c in
-    let s = at.args.s.now in
-    (omega arith, at.loop-i.invariant.1 ∙ nothing_goes_on s at.loop-i.i (omega arith) c.if-s-i-ne0.false)
+    let s = c.args.s.now in
+    (omega arith, c.loop-i.invariant.1 ∙ nothing_goes_on s c.loop-i.i (omega arith) c.if-s-i-ne0.false)
 
 pub returns : goal.returns
 returns c =

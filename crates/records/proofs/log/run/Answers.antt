@@ -31,11 +31,10 @@ returns-then-is_silence c =
 pub say-said-requires : goal.say-said-requires
 say-said-requires c =
     let l = c.loop-rest in
-    let a = c in
     let e : leb (longest_line (length l.reply)) (length l.out - l.written) ≡ true = sym c.has_room.ensures ∙ c.loop-rest-test.true in
     let room = leb-true (longest_line (length l.reply)) (length l.out - l.written) e in
     let i = l.invariant.0.inside in
-    (omega (arith, room, i), rw c.next_of-next.ensures (next_fits l.held.stage (take (length a.args.log.now - l.used) (drop l.used a.args.log.now)) a.args.last))
+    (omega (arith, room, i), rw c.next_of-next.ensures (next_fits l.held.stage (take (length c.args.log.now - l.used) (drop l.used c.args.log.now)) c.args.last))
 
 -- a turn: what holds after it, and that less is left to do
 turns : goal.loop-rest-preserved × goal.loop-rest-smaller

@@ -8,10 +8,9 @@ slice_bounds-put_line-end c = simp length-take (omega arith)
 
 pub put_line-behind-requires : goal.put_line-behind-requires
 put_line-behind-requires c =
-    let first = c in
-    let shown = take first.args.answer.length first.args.reply.now in
-    let long = line_length c.wrapping_add_u64-items.result first.args.answer.fate shown in
-    omega (arith, length-take first.args.answer.length first.args.reply.now, long, first.requires)
+    let shown = take c.args.answer.length c.args.reply.now in
+    let long = line_length c.wrapping_add_u64-items.result c.args.answer.fate shown in
+    omega (arith, length-take c.args.answer.length c.args.reply.now, long, c.requires)
 
 pub returns : goal.returns
 returns c =

@@ -3,5 +3,4 @@ use Rattle.records.proofs.record.is_head.Goals as goal
 
 pub returns : goal.returns
 returns c =
-    let first = c in
-    rw (c.is_right.ensures, first.requires.1)
+    rw (c.is_right.ensures, c.requires.1)

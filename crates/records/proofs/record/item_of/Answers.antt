@@ -6,9 +6,8 @@ use Rattle.records.proofs.record.item_of.Goals as goal
 
 pub bounds-log-7 : goal.bounds-log-7
 bounds-log-7 c =
-    let first = c in
-    let n = code_body first.args.log.now first.requires.1 c.in-2.is in
-    omega (arith, n, first.requires)
+    let n = code_body c.args.log.now c.requires.1 c.in-2.is in
+    omega (arith, n, c.requires)
 
 pub bounds-log-7-in_default : goal.bounds-log-7-in_default
 bounds-log-7-in_default c =
@@ -40,8 +39,7 @@ bounds-log-10 c =
 
 pub returns-in-1 : goal.returns-in-1
 returns-in-1 c =
-    let first = c in
-    rw (c.in-1.is, c.end_of.ensures, first.requires.2)
+    rw (c.in-1.is, c.end_of.ensures, c.requires.2)
 
 pub returns-in-2 : goal.returns-in-2
 returns-in-2 c = rw c.in-2.is

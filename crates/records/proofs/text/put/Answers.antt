@@ -7,10 +7,9 @@ use Rattle.records.proofs.text.put.Goals as goal
 
 pub returns : goal.returns
 returns c =
-    let first = c in
-    let s = first.args.text.now in
-    let d = first.args.out.now in
+    let s = c.args.text.now in
+    let d = c.args.out.now in
     record {
-      bytes = c.copy_part.ensures.leaves ∙ copied_done s 0 (length s) d first.args.at (omega arith) first.requires ∙ ap (λ (l : List ℕ). placed first.args.at l d) (take-length s);
+      bytes = c.copy_part.ensures.leaves ∙ copied_done s 0 (length s) d c.args.at (omega arith) c.requires ∙ ap (λ (l : List ℕ). placed c.args.at l d) (take-length s);
       next = search rules;
     }

@@ -6,13 +6,11 @@ use Rattle.records.proofs.text.put_word.Goals as goal
 
 pub put-behind-requires : goal.put-behind-requires
 put-behind-requires c =
-    let first = c in
-    start_room first.args.at (length first.args.out.now) first.args.word.now (ended (decimal first.args.n)) first.requires
+    start_room c.args.at (length c.args.out.now) c.args.word.now (ended (decimal c.args.n)) c.requires
 
 pub put_number-requires : goal.put_number-requires
 put_number-requires c =
-    let first = c in
-    put_room c.put-behind.ensures (ended (decimal first.args.n)) first.requires
+    put_room c.put-behind.ensures (ended (decimal c.args.n)) c.requires
 
 pub returns : goal.returns
 returns c = put_then c.put-behind.ensures c.requires c.put_number.ensures

@@ -29,8 +29,7 @@ returns-in-ReadMemory c = rw c.in-ReadMemory.is c.answer_memory.ensures
 pub returns-in-RepeatByte : goal.returns-in-RepeatByte
 unfolding data_for
 returns-in-RepeatByte c =
-    let c4 = c in
-    rw (c4.in-RepeatByte.is, ← c4.byte_at-byte.ensures) c.write_repeated_reply.ensures.leaves
+    rw (c.in-RepeatByte.is, ← c.byte_at-byte.ensures) c.write_repeated_reply.ensures.leaves
 
 pub returns-in-Store : goal.returns-in-Store
 unfolding data_for
@@ -51,8 +50,7 @@ returns-in-ReadFields c = rw c.in-ReadFields.is c.answer_fields.ensures
 pub returns-in-Swap : goal.returns-in-Swap
 unfolding data_for
 returns-in-Swap c =
-    let c4 = c in
-    rw (c4.in-Swap.is, ← c4.bytes4-old.ensures) c.write_reply.ensures.leaves
+    rw (c.in-Swap.is, ← c.bytes4-old.ensures) c.write_reply.ensures.leaves
 
 pub returns-in-WriteField : goal.returns-in-WriteField
 unfolding data_for

@@ -14,18 +14,15 @@ gather-requires c =
 
 pub overflow_cast-count : goal.overflow_cast-count
 overflow_cast-count c =
-    let c4 = c in
-    let a = c4.args in
-    let w = c4.requires in
+    let a = c.args in
+    let w = c.requires in
     let few = carried_few a.path a.h a.status a.count a.reply.now w.1.0 w.1.1 in
     omega (arith, few)
 
 pub returns : goal.returns
 returns c =
-    let c4 = c in
-    let c8 = c4 in
-    let a = c8.args in
-    let w = c8.requires in
+    let a = c.args in
+    let w = c.requires in
     gathered_reply a.path a.h a.status a.count a.reply.now w.1.0 w.1.1 (part a.at a.count a.memory.now)
-    (length_part a.at a.count a.memory.now w.0) (rw c4.data_place.ensures at c4.gather.ensures)
+    (length_part a.at a.count a.memory.now w.0) (rw c.data_place.ensures at c.gather.ensures)
     c.write_reply_around.ensures.leaves

@@ -8,6 +8,5 @@ returns-then-count-eq0 c = rw c.if-count-eq0.true
 
 pub returns : goal.returns
 returns c =
-    let c4 = c in
-    let a = c4.args in
+    let a = c.args in
     byte_gathered a.memory.now a.at a.count (omega arith) c.gather.ensures

@@ -5,10 +5,7 @@ use Rattle.unit.proofs.act.combine.Goals as goal
 
 pub returns : goal.returns
 returns c =
-    let c4 = c in
-    let c8 = c4 in
-    let start = c8 in
-    let a = start.args in
-    let w = start.requires in
+    let a = c.args in
+    let w = c.requires in
     combined_between a.packet.now a.memory.now (0 ∷ 0 ∷ 0 ∷ 0 ∷ []) a.from a.count a.at w.0 w.1 w.2
-    c8.gather.ensures c4.combine_with.ensures c.scatter.ensures
+    c.gather.ensures c.combine_with.ensures c.scatter.ensures

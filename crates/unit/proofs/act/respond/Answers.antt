@@ -15,5 +15,4 @@ answer-requires c =
 pub returns : goal.returns
 unfolding replied_to
 returns c =
-    let c4 = c in
-    rw (← c4.number.ensures, eq-eqb _ _ c4.if-number-ne20.false, ← c4.byte.ensures) c.answer.ensures
+    rw (← c.number.ensures, eq-eqb _ _ c.if-number-ne20.false, ← c.byte.ensures) c.answer.ensures

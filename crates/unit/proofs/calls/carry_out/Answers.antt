@@ -6,26 +6,18 @@ use Rattle.unit.proofs.calls.carry_out.Goals as goal
 
 pub follow-requires : goal.follow-requires
 follow-requires c =
-    let c4 = c in
-    let c8 = c4 in
-    rw c.in-Planned.is at c8.requires
+    rw c.in-Planned.is at c.requires
 
 pub returns-in-Ends : goal.returns-in-Ends
 returns-in-Ends c =
-    let c4 = c in
-    let c8 = c4 in
-    let a = c8.args in
+    let a = c.args in
     rw c.in-Ends.is (ap (λ (x : Answer). leaving x (record { memory = a.memory.now; reply = a.reply.now })) c.ended.ensures)
 
 pub returns-in-SetsTime : goal.returns-in-SetsTime
 returns-in-SetsTime c =
-    let c4 = c in
-    let c8 = c4 in
-    let a = c8.args in
+    let a = c.args in
     rw (c.in-SetsTime.is, ← c.set_time-u.ensures) (ap (λ (x : Answer). leaving x (record { memory = a.memory.now; reply = a.reply.now })) c.ended-in-SetsTime.ensures)
 
 pub returns-in-Planned : goal.returns-in-Planned
 returns-in-Planned c =
-    let c4 = c in
-    let c8 = c4 in
-    rw c8.in-Planned.is c4.follow.ensures
+    rw c.in-Planned.is c.follow.ensures

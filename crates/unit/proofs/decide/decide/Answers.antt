@@ -10,12 +10,10 @@ returns-then-not-is_success c = rw (← c.header_status-first.ensures, sym c.is_
 
 pub returns : goal.returns
 returns c =
-    let c4 = c in
-    let c8 = c4 in
-    let a = c8.args in
-    let accepted = sym c4.is_success.ensures ∙ c4.if-not-is_success.false in
-    let size = c4.header_size-from.ensures in
-    decided_data a.unit a.h a.path (record { packet = a.packet.now; end = a.end; link = a.link }) c4.header_status-first.ensures accepted a.room c.data_crc-crc.result size (rw size c8.requires) c.wanted_count.ensures
+    let a = c.args in
+    let accepted = sym c.is_success.ensures ∙ c.if-not-is_success.false in
+    let size = c.header_size-from.ensures in
+    decided_data a.unit a.h a.path (record { packet = a.packet.now; end = a.end; link = a.link }) c.header_status-first.ensures accepted a.room c.data_crc-crc.result size (rw size c.requires) c.wanted_count.ensures
     c.data_crc-crc.ensures c.decide_by_data.ensures
 
 pub decide_by_data-requires-clause-words : goal.decide_by_data-requires-clause-words

@@ -17,10 +17,9 @@ any_missing-requires c =
 pub returns-then-any_missing : goal.returns-then-any_missing
 unfolding fields_status
 returns-then-any_missing c =
-    let c4 = c in
-    let n = c.field_count-count.ensures ∙ ap (λ (k : Kind). field_count k c4.args.h.length) c4.requires in
+    let n = c.field_count-count.ensures ∙ ap (λ (k : Kind). field_count k c.args.h.length) c.requires in
     let m = rw n at (sym c.any_missing.ensures ∙ c.if-any_missing.true) in
-    rw (sym c4.names_fields.ensures ∙ c.if-not-names_fields.false, m)
+    rw (sym c.names_fields.ensures ∙ c.if-not-names_fields.false, m)
 
 pub offence_in-offence-requires : goal.offence_in-offence-requires
 offence_in-offence-requires c =
@@ -30,34 +29,28 @@ offence_in-offence-requires c =
 pub returns-then-not-is_success : goal.returns-then-not-is_success
 unfolding fields_status
 returns-then-not-is_success c =
-    let c4 = c in
-    let c8 = c4 in
-    let n = c4.field_count-count.ensures ∙ ap (λ (k : Kind). field_count k c8.args.h.length) c8.requires in
-    let m = rw n at (sym c4.any_missing.ensures ∙ c.if-any_missing.false) in
-    let o = rw (n, c8.requires) at c.offence_in-offence.ensures in
+    let n = c.field_count-count.ensures ∙ ap (λ (k : Kind). field_count k c.args.h.length) c.requires in
+    let m = rw n at (sym c.any_missing.ensures ∙ c.if-any_missing.false) in
+    let o = rw (n, c.requires) at c.offence_in-offence.ensures in
     let s = sym c.is_success.ensures ∙ c.if-not-is_success.true in
-    rw (sym c4.names_fields.ensures ∙ c4.if-not-names_fields.false, m, ← o, s)
+    rw (sym c.names_fields.ensures ∙ c.if-not-names_fields.false, m, ← o, s)
 
 pub returns-then-not-is_allowed : goal.returns-then-not-is_allowed
 unfolding fields_status
 returns-then-not-is_allowed c =
-    let c4 = c in
-    let c8 = c4 in
-    let n = c4.field_count-count.ensures ∙ ap (λ (k : Kind). field_count k c8.args.h.length) c8.requires in
-    let m = rw n at (sym c4.any_missing.ensures ∙ c4.if-any_missing.false) in
-    let o = rw (n, c8.requires) at c4.offence_in-offence.ensures in
+    let n = c.field_count-count.ensures ∙ ap (λ (k : Kind). field_count k c.args.h.length) c.requires in
+    let m = rw n at (sym c.any_missing.ensures ∙ c.if-any_missing.false) in
+    let o = rw (n, c.requires) at c.offence_in-offence.ensures in
     let s = sym c.is_success.ensures ∙ c.if-not-is_success.false in
-    let w = rw c8.requires at (sym c.is_allowed.ensures ∙ c.if-not-is_allowed.true) in
-    rw (sym c8.names_fields.ensures ∙ c8.if-not-names_fields.false, m, ← o, s, w)
+    let w = rw c.requires at (sym c.is_allowed.ensures ∙ c.if-not-is_allowed.true) in
+    rw (sym c.names_fields.ensures ∙ c.if-not-names_fields.false, m, ← o, s, w)
 
 pub returns : goal.returns
 unfolding fields_status
 returns c =
-    let c4 = c in
-    let c8 = c4 in
-    let n = c4.field_count-count.ensures ∙ ap (λ (k : Kind). field_count k c8.args.h.length) c8.requires in
-    let m = rw n at (sym c4.any_missing.ensures ∙ c4.if-any_missing.false) in
-    let o = rw (n, c8.requires) at c4.offence_in-offence.ensures in
+    let n = c.field_count-count.ensures ∙ ap (λ (k : Kind). field_count k c.args.h.length) c.requires in
+    let m = rw n at (sym c.any_missing.ensures ∙ c.if-any_missing.false) in
+    let o = rw (n, c.requires) at c.offence_in-offence.ensures in
     let s = sym c.is_success.ensures ∙ c.if-not-is_success.false in
-    let w = rw c8.requires at (sym c.is_allowed.ensures ∙ c.if-not-is_allowed.false) in
-    rw (sym c8.names_fields.ensures ∙ c8.if-not-names_fields.false, m, ← o, s, w)
+    let w = rw c.requires at (sym c.is_allowed.ensures ∙ c.if-not-is_allowed.false) in
+    rw (sym c.names_fields.ensures ∙ c.if-not-names_fields.false, m, ← o, s, w)

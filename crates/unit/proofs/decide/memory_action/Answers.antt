@@ -4,20 +4,16 @@ use Rattle.unit.proofs.decide.memory_action.Goals as goal
 
 pub returns-in-Unused : goal.returns-in-Unused
 returns-in-Unused c =
-    let c4 = c in
-    rw (sym c4.requires ∙ c.in-Unused.is)
+    rw (sym c.requires ∙ c.in-Unused.is)
 
 pub returns-in-Read : goal.returns-in-Read
 returns-in-Read c =
-    let c4 = c in
-    rw (sym c4.requires ∙ c.in-Read.is) c.read_action.ensures
+    rw (sym c.requires ∙ c.in-Read.is) c.read_action.ensures
 
 pub returns-in-ReadModifyWrite : goal.returns-in-ReadModifyWrite
 returns-in-ReadModifyWrite c =
-    let c4 = c in
-    rw (sym c4.requires ∙ c.in-ReadModifyWrite.is) c.rmw_action.ensures
+    rw (sym c.requires ∙ c.in-ReadModifyWrite.is) c.rmw_action.ensures
 
 pub returns-in-Write : goal.returns-in-Write
 returns-in-Write c =
-    let c4 = c in
-    rw (sym c4.requires ∙ c.in-Write.is, ← c.smaller.ensures) c.write_action.ensures
+    rw (sym c.requires ∙ c.in-Write.is, ← c.smaller.ensures) c.write_action.ensures

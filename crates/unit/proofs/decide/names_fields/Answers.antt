@@ -6,12 +6,10 @@ use Rattle.unit.proofs.decide.names_fields.Goals as goal
 
 pub overflow_add-result : goal.overflow_add-result
 overflow_add-result c =
-    let c4 = c in
-    let m = field_count_most c4.args.kind c4.args.h.length in
+    let m = field_count_most c.args.kind c.args.h.length in
     omega (arith, m, c.field_count.ensures)
 
 pub returns : goal.returns
 unfolding names_fields
 returns c =
-    let c4 = c in
-    rw (c.field_count.ensures, c.is_field_length.ensures, c4.requires, c4.code-code.ensures)
+    rw (c.field_count.ensures, c.is_field_length.ensures, c.requires, c.code-code.ensures)

@@ -11,30 +11,26 @@ returns-then-packet_type-ne1 c = rw (ne_eqb _ _ (λ e. c.if-packet_type-ne1.true
 pub returns-then-is_unused : goal.returns-then-is_unused
 unfolding opening_status
 returns-then-is_unused c =
-    let c4 = c in
     rw (
       eq-eqb _ _ (sym c.packet_type.ensures ∙ c.if-packet_type-ne1.false),
-      ap is_unused (sym c4.requires) ∙ sym c.is_unused.ensures ∙ c.if-is_unused.true,
+      ap is_unused (sym c.requires) ∙ sym c.is_unused.ensures ∙ c.if-is_unused.true,
     )
 
 pub returns-then-h-key : goal.returns-then-h-key
 unfolding opening_status
 returns-then-h-key c =
-    let c4 = c in
     rw (
-      eq-eqb _ _ (sym c4.packet_type.ensures ∙ c4.if-packet_type-ne1.false),
-      ap is_unused (sym c4.requires) ∙ sym c.is_unused.ensures ∙ c.if-is_unused.false,
+      eq-eqb _ _ (sym c.packet_type.ensures ∙ c.if-packet_type-ne1.false),
+      ap is_unused (sym c.requires) ∙ sym c.is_unused.ensures ∙ c.if-is_unused.false,
       ne_eqb _ _ c.if-h-key.true,
     )
 
 pub returns-then-h-logical : goal.returns-then-h-logical
 unfolding opening_status
 returns-then-h-logical c =
-    let c4 = c in
-    let c8 = c4 in
     rw (
-      eq-eqb _ _ (sym c8.packet_type.ensures ∙ c4.if-packet_type-ne1.false),
-      ap is_unused (sym c8.requires) ∙ sym c4.is_unused.ensures ∙ c4.if-is_unused.false,
+      eq-eqb _ _ (sym c.packet_type.ensures ∙ c.if-packet_type-ne1.false),
+      ap is_unused (sym c.requires) ∙ sym c.is_unused.ensures ∙ c.if-is_unused.false,
       eq-eqb _ _ c.if-h-key.false,
       c.if-h-logical.true,
     )
@@ -42,11 +38,9 @@ returns-then-h-logical c =
 pub returns : goal.returns
 unfolding opening_status
 returns c =
-    let c4 = c in
-    let c8 = c4 in
     rw (
-      eq-eqb _ _ (sym c8.packet_type.ensures ∙ c4.if-packet_type-ne1.false),
-      ap is_unused (sym c8.requires) ∙ sym c4.is_unused.ensures ∙ c4.if-is_unused.false,
+      eq-eqb _ _ (sym c.packet_type.ensures ∙ c.if-packet_type-ne1.false),
+      ap is_unused (sym c.requires) ∙ sym c.is_unused.ensures ∙ c.if-is_unused.false,
       eq-eqb _ _ c.if-h-key.false,
       c.if-h-logical.false,
     )

@@ -10,9 +10,8 @@ returns-then-not-wants_reply c = rw (sym c.wants_reply.ensures ∙ c.if-not-want
 pub returns-then-room-length : goal.returns-then-room-length
 unfolding planned_for
 returns-then-room-length c =
-    let c4 = c in
     rw (
-      sym c4.wants_reply.ensures ∙ c4.if-not-wants_reply.false,
+      sym c.wants_reply.ensures ∙ c.if-not-wants_reply.false,
       ← c.byte.ensures,
       ← c.reply_count.ensures,
       ← c.reply_length-length.ensures,
@@ -22,9 +21,8 @@ returns-then-room-length c =
 pub returns : goal.returns
 unfolding planned_for
 returns c =
-    let c4 = c in
     rw (
-      sym c4.wants_reply.ensures ∙ c4.if-not-wants_reply.false,
+      sym c.wants_reply.ensures ∙ c.if-not-wants_reply.false,
       ← c.byte.ensures,
       ← c.reply_count.ensures,
       ← c.reply_length-length.ensures,

@@ -19,17 +19,15 @@ returns-then-is_incrementing c =
 pub returns-then-h-lt1 : goal.returns-then-h-lt1
 unfolding span_size
 returns-then-h-lt1 c =
-    let c4 = c in
     rw (
-      ap is_rmw (sym c4.requires) ∙ sym c4.is_rmw.ensures ∙ c4.if-is_rmw.false,
+      ap is_rmw (sym c.requires) ∙ sym c.is_rmw.ensures ∙ c.if-is_rmw.false,
       sym c.is_incrementing.ensures ∙ c.if-is_incrementing.false,
     ) (omega arith)
 
 pub returns-else-h-lt1 : goal.returns-else-h-lt1
 unfolding span_size
 returns-else-h-lt1 c =
-    let c4 = c in
     rw (
-      ap is_rmw (sym c4.requires) ∙ sym c4.is_rmw.ensures ∙ c4.if-is_rmw.false,
+      ap is_rmw (sym c.requires) ∙ sym c.is_rmw.ensures ∙ c.if-is_rmw.false,
       sym c.is_incrementing.ensures ∙ c.if-is_incrementing.false,
     ) (omega arith)

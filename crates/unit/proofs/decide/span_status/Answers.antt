@@ -6,36 +6,30 @@ use Rattle.unit.proofs.decide.span_status.Goals as goal
 pub returns-then-is_rmw-h : goal.returns-then-is_rmw-h
 unfolding span_status
 returns-then-is_rmw-h c =
-    let c4 = c in
-    rw (rw (c.is_rmw.ensures, c4.requires) at c.if-is_rmw-h.true)
+    rw (rw (c.is_rmw.ensures, c.requires) at c.if-is_rmw-h.true)
 
 pub returns-then-not-is_authorised : goal.returns-then-not-is_authorised
 unfolding span_status
 returns-then-not-is_authorised c =
-    let c4 = c in
     rw (
-      rw (c4.is_rmw.ensures, c4.requires) at c.if-is_rmw-h.false,
+      rw (c.is_rmw.ensures, c.requires) at c.if-is_rmw-h.false,
       sym c.is_authorised.ensures ∙ c.if-not-is_authorised.true,
     )
 
 pub returns-then-is_write-is_verified : goal.returns-then-is_write-is_verified
 unfolding span_status
 returns-then-is_write-is_verified c =
-    let c4 = c in
-    let c8 = c4 in
     rw (
-      rw (c8.is_rmw.ensures, c8.requires) at c4.if-is_rmw-h.false,
-      sym c4.is_authorised.ensures ∙ c4.if-not-is_authorised.false,
+      rw (c.is_rmw.ensures, c.requires) at c.if-is_rmw-h.false,
+      sym c.is_authorised.ensures ∙ c.if-not-is_authorised.false,
       rw (c.is_write.ensures, c.is_verified.ensures) at c.if-is_write-is_verified.true,
     )
 
 pub returns : goal.returns
 unfolding span_status
 returns c =
-    let c4 = c in
-    let c8 = c4 in
     rw (
-      rw (c8.is_rmw.ensures, c8.requires) at c4.if-is_rmw-h.false,
-      sym c4.is_authorised.ensures ∙ c4.if-not-is_authorised.false,
+      rw (c.is_rmw.ensures, c.requires) at c.if-is_rmw-h.false,
+      sym c.is_authorised.ensures ∙ c.if-not-is_authorised.false,
       rw (c.is_write.ensures, c.is_verified.ensures) at c.if-is_write-is_verified.false,
     )

@@ -6,6 +6,5 @@ use Rattle.unit.proofs.decide.word_at.Goals as goal
 
 pub returns : goal.returns
 returns c =
-    let c4 = c in
     c.number4.ensures
-    ∙ ap number (sym (part_bytes c4.args.at 3 c4.args.bytes.now c4.requires))
+    ∙ ap number (sym (part_bytes c.args.at 3 c.args.bytes.now c.requires))

@@ -7,16 +7,14 @@ returns-then-is_verified-is_success c = rw (rw (c.is_success.ensures, c.is_verif
 
 pub returns-then-is_incrementing : goal.returns-then-is_incrementing
 returns-then-is_incrementing c =
-    let c4 = c in
     rw (
-      rw (c.is_success.ensures, c4.is_verified.ensures) at c.if-is_verified-is_success.false,
+      rw (c.is_success.ensures, c.is_verified.ensures) at c.if-is_verified-is_success.false,
       sym c.is_incrementing.ensures ∙ c.if-is_incrementing.true,
     )
 
 pub returns : goal.returns
 returns c =
-    let c4 = c in
     rw (
-      rw (c.is_success.ensures, c4.is_verified.ensures) at c.if-is_verified-is_success.false,
+      rw (c.is_success.ensures, c.is_verified.ensures) at c.if-is_verified-is_success.false,
       sym c.is_incrementing.ensures ∙ c.if-is_incrementing.false,
     )

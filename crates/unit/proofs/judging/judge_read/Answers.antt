@@ -11,8 +11,7 @@ returns-then-not-is_usable c = rw (sym c.is_usable.ensures ∙ c.if-not-is_usabl
 
 pub ruling_on-requires : goal.ruling_on-requires
 ruling_on-requires c =
-    let c4 = c in
-    let a = c4.args in
+    let a = c.args in
     λ h is. header_whole a.packet.now a.unit.number h (ap (λ (x : Packet). x.reading) (sym c.read_packet-read.ensures) ∙ is)
 
 pub returns-then-not-link-unit : goal.returns-then-not-link-unit
