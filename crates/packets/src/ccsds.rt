@@ -14,8 +14,8 @@ pub enum CcsdsReading {
 // Why nothing is sent.
 #[derive(Clone, Copy)]
 pub enum Unsent {
-    WrongSpacePacket,
-    OutputTooShort,
+    WrongSpacePacket = 41,
+    OutputTooShort = 42,
 }
 
 // What came of sending: how many bytes the packet has, or why nothing was written.
@@ -42,10 +42,7 @@ impl Unsent {
     pub fn number(self) -> u8
         ensures { result ≡ unsent_number_of self }
     {
-        match self {
-            Unsent::WrongSpacePacket => 41,
-            Unsent::OutputTooShort => 42,
-        }
+        self as u8
     }
 }
 

@@ -22,11 +22,11 @@ pub enum End {
 // Why a packet goes no further.
 #[derive(Clone, Copy, PartialEq, Eq)]
 pub enum Refusal {
-    Incomplete,
-    UnknownProtocol,
-    ExtendedProtocol,
-    Reply,
-    HeaderCrc,
+    Incomplete = 11,
+    UnknownProtocol = 12,
+    ExtendedProtocol = 13,
+    Reply = 14,
+    HeaderCrc = 15,
 }
 
 #[derive(Clone, Copy)]
@@ -56,13 +56,7 @@ impl Refusal {
     pub fn number(self) -> u8
         ensures { result ≡ number_of self }
     {
-        match self {
-            Refusal::Incomplete => 11,
-            Refusal::UnknownProtocol => 12,
-            Refusal::ExtendedProtocol => 13,
-            Refusal::Reply => 14,
-            Refusal::HeaderCrc => 15,
-        }
+        self as u8
     }
 }
 
