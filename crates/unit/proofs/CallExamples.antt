@@ -1,5 +1,6 @@
 -- Worked examples of what a call is judged by and what it leaves, computed by the definitions: worked out by hand from document 01 ('Numbers a caller
 -- gets', 'Time').
+use Rattle.std.specs.Prelude.{Option, Some, None}
 use Rattle.std.proofs.Common.{◌≡◌, ℕ, ◌-◌, ◌^◌, true, false, List, [], ◌∷◌, ◌++◌, map, replicate, refl}
 use Rattle.octets.specs.Crc.{crc, mirrored, bits, remainder, message, modulo}
 use Rattle.packets.specs.Reading.{read_protocol, read_packet}
@@ -9,8 +10,6 @@ use Rattle.packets.specs.declared.reading.Refusal.TheVariants.{Incomplete, Unkno
 use Rattle.packets.specs.declared.path.Path.{Path}
 use Rattle.packets.specs.declared.time.When.TheVariants.{AtOnce}
 use Rattle.packets.specs.declared.time.Time.{Time as TheTime}
-use Rattle.packets.specs.declared.time.TimeReading.{TimeReading}
-use Rattle.packets.specs.declared.time.TimeReading.TheVariants.{ThrownAway, Taken}
 use Rattle.unit.specs.Fate.{fate_number, fate_status}
 use Rattle.unit.specs.Counters.{counted_for}
 use Rattle.unit.specs.Clock.{after_time, after_code, after_ticks}
@@ -100,9 +99,9 @@ precedence = (refl, refl, refl)
 -- ---- time packets
 
 -- 16 thrown away, 19 taken
-time_fates : (r : TimeReading) → fate_number (fate_in (time_ruling r)) ≡ time_number_of r
-time_fates ThrownAway = refl
-time_fates (Taken t) = refl
+time_fates : (r : Option TheTime) → fate_number (fate_in (time_ruling r)) ≡ time_number_of r
+time_fates None = refl
+time_fates (Some t) = refl
 
 -- 19: the time is changed, and what is lent is left
 time_taken : (t : TheTime) (path : Path) (u : TheUnit) (bytes : List ℕ) (link : ℕ) (lent : Lent)
