@@ -1,5 +1,5 @@
 -- Worked examples: document 01's own log, with what it prints; its records, its unit, and texts, by hand.
-use Rattle.std.proofs.Common.{◌≡◌, ℕ, true, List, [], ◌∷◌, ◌++◌, map, length, replicate, refl}
+use Rattle.std.proofs.Common.{◌≡◌, ℕ, true, List, [], ◌∷◌, ◌++◌, map, length, replicate, refl, None}
 use Rattle.octets.specs.Crc.{crc, mirrored, bits, remainder, message, modulo}
 use Rattle.packets.specs.Instruction.{kind_of}
 use Rattle.packets.specs.Path.{path_of, or_one_zero, without_leading_zeros, same_path}
@@ -23,7 +23,6 @@ use Rattle.unit.specs.declared.fate.Status.TheVariants.{NotAuthorised}
 use Rattle.unit.specs.declared.fate.Fate.{Fate}
 use Rattle.unit.specs.declared.fate.Fate.TheVariants.{NoSuchLink, Unread, TimeThrownAway, TimeTaken, Replied}
 use Rattle.unit.specs.declared.fate.Told.TheVariants.{Nothing, Byte}
-use Rattle.unit.specs.declared.clock.Waiting.TheVariants.{NoValue}
 use Rattle.unit.specs.declared.unit.Unit.{Unit as TheUnit}
 use Rattle.records.specs.Record.{kind_number, end_number, read_record, size_of}
 use Rattle.records.specs.Text.{ascii, glyph, decimal, hexes, status_text, record_line}
@@ -213,7 +212,7 @@ fields_are = refl
 -- no owner; no Time-Code, no time and none that waits; nothing counted
 pub rest_is :
     (bench_unit.owner ≡ record { device = 0; initiator = 0; path = record { bytes = replicate 12 0; count = 0 }; link = 0 })
-    × (bench_unit.clock ≡ record { last = 0; elapsed = record { value = 0; epoch = 0 }; waiting = NoValue })
+    × (bench_unit.clock ≡ record { last = 0; elapsed = record { value = 0; epoch = 0 }; waiting = None })
     × (bench_unit.counters ≡ replicate 11 0)
 unfolding path_of
 rest_is = (refl, refl, refl)

@@ -1,6 +1,6 @@
 -- Worked examples of what is decided about a command, computed by the definitions: worked out by hand from document 01 ('Reading a packet', 'Span',
 -- 'Effects', 'Reply', 'Fields', 'Owner').
-use Rattle.std.proofs.Common.{◌≡◌, ℕ, ◌+◌, ◌*◌, ◌^◌, Bool, true, false, List, [], ◌∷◌, map, replicate, refl}
+use Rattle.std.proofs.Common.{◌≡◌, ℕ, ◌+◌, ◌*◌, ◌^◌, Bool, true, false, List, [], ◌∷◌, map, replicate, refl, None}
 use Rattle.octets.proofs.Tabulate.{tabulate}
 use Rattle.packets.specs.Instruction.{kind_of}
 use Rattle.packets.specs.Path.{same_path}
@@ -17,7 +17,6 @@ use Rattle.unit.specs.Act.{stored}
 use Rattle.unit.specs.declared.fate.Status.{Status}
 use Rattle.unit.specs.declared.fate.Status.TheVariants.{Success, UnusedCode, WrongKey, DataCrc, EarlyEop, TooMuchData, EndedByEep, VerifyOverrun}
 use Rattle.unit.specs.declared.fate.Status.TheVariants.{NotAuthorised, RmwLength, WrongAddress, NotOwner, NoSuchField, ReadOnlyField, PlainDeviceId}
-use Rattle.unit.specs.declared.clock.Waiting.TheVariants.{NoValue}
 use Rattle.unit.specs.declared.windows.Window.{Window}
 use Rattle.unit.specs.declared.windows.Windows.{Windows}
 use Rattle.unit.specs.declared.owner.Owner.{Owner}
@@ -315,7 +314,7 @@ refusals = (refl, refl, refl, refl, refl, refl, refl, refl, refl)
 -- ---- both protocols: what each asks for first
 
 abbrev first : Header → Status
-first h = header_status (unit 0xF0 4 all 0 (claim 5) (clock 0 0 NoValue)) h (zeros 0) 1
+first h = header_status (unit 0xF0 4 all 0 (claim 5) (clock 0 0 None)) h (zeros 0) 1
 
 protocols :
     -- RMAP: the unit's key and address; 3 and 12 go before 11

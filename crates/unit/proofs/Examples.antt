@@ -1,6 +1,6 @@
 -- Worked examples, computed by the definitions: a definition that no longer says what they say is refused here. They were worked out from
 -- document 01 by a model written apart from these definitions.
-use Rattle.std.proofs.Common.{◌≡◌, ℕ, ◌-◌, ◌^◌, true, false, List, [], ◌∷◌, ◌++◌, map, length, take, replicate, refl}
+use Rattle.std.proofs.Common.{◌≡◌, ℕ, ◌-◌, ◌^◌, true, false, List, [], ◌∷◌, ◌++◌, map, length, take, replicate, refl, None, Some}
 use Rattle.octets.specs.Crc.{crc, mirrored, bits, remainder, message, modulo}
 use Rattle.packets.specs.Instruction.{kind_of}
 use Rattle.packets.specs.Path.{without_leading_zeros, or_one_zero, path_of, same_path}
@@ -26,7 +26,6 @@ use Rattle.unit.specs.declared.fate.Status.TheVariants.{NotAuthorised, RmwLength
 use Rattle.unit.specs.declared.fate.Fate.{Fate}
 use Rattle.unit.specs.declared.fate.Fate.TheVariants.{TimeChanged, Unusable, NoSuchLink, NoRoom, Unread, TimeThrownAway, NotObeyed, Obeyed, TimeTaken, Replied}
 use Rattle.unit.specs.declared.clock.Clock.{Clock}
-use Rattle.unit.specs.declared.clock.Waiting.TheVariants.{NoValue, Value}
 use Rattle.unit.specs.declared.owner.Owner.{Owner}
 use Rattle.unit.specs.declared.unit.Unit.{Unit as TheUnit}
 use Rattle.unit.proofs.ExampleParts.{window, windows, owner, clock_of, clock, fields, unit}
@@ -63,7 +62,7 @@ rolls_over = refl
 -- ---- time: ET 2^56-1 and one tick is 0; round the wrap of the Time-Code
 
 abbrev at : ℕ → ℕ → Clock
-at last et = clock last et NoValue
+at last et = clock last et None
 
 one_tick : after_ticks (at 5 (2 ^ 56 - 1)) 1 ≡ at 5 0
 unfolding after_ticks
@@ -93,10 +92,10 @@ unfolding after_code nearest_second
 other_code = refl
 
 -- the wrap keeps the epoch code; a waiting value brings its own, and becomes ET whether it is later or earlier
-epochs : (after_code (clock_of 63 0x00000007800000 0xAF NoValue) 0 ≡ clock_of 0 0x00000008000000 0xAF NoValue)
-    × (after_code (clock_of 63 0x00000007400000 0xAF NoValue) 0 ≡ clock_of 0 0x00000007000000 0xAF NoValue)
-    × (after_code (clock_of 63 1 0x9F (Value (record { value = 0x77; epoch = 0xAF }))) 0 ≡ clock_of 0 0x77 0xAF NoValue)
-    × (after_code (clock_of 63 0x00000007800000 0x9F (Value (record { value = 0x77; epoch = 0xAF }))) 0 ≡ clock_of 0 0x77 0xAF NoValue)
+epochs : (after_code (clock_of 63 0x00000007800000 0xAF None) 0 ≡ clock_of 0 0x00000008000000 0xAF None)
+    × (after_code (clock_of 63 0x00000007400000 0xAF None) 0 ≡ clock_of 0 0x00000007000000 0xAF None)
+    × (after_code (clock_of 63 1 0x9F (Some (record { value = 0x77; epoch = 0xAF }))) 0 ≡ clock_of 0 0x77 0xAF None)
+    × (after_code (clock_of 63 0x00000007800000 0x9F (Some (record { value = 0x77; epoch = 0xAF }))) 0 ≡ clock_of 0 0x77 0xAF None)
 unfolding after_code nearest_second
 epochs = (refl, refl, refl, refl)
 
@@ -434,7 +433,7 @@ far = record { device = 5; initiator = 0x67; path = record { bytes = replicate 1
 
 -- last Time-Code; ET is under way, and a value waits
 abbrev ticking : ℕ → Clock
-ticking last = clock last 0x7400000 (Value (record { value = 0xA000000; epoch = 0xAF }))
+ticking last = clock last 0x7400000 (Some (record { value = 0xA000000; epoch = 0xAF }))
 
 -- every counter was 7; a fate from 11 to 20 is counted in its own and in the total
 abbrev sevens : List ℕ
@@ -617,10 +616,10 @@ left_as_it_was = (refl, refl, refl, refl, refl, refl)
 time_packets :
     -- 01: ET is set at once, and nothing waits
     (taking (start nobody) (0x43 ∷ 0xF3 ∷ 0xAF ∷ 0x01 ∷ 0x00 ∷ 0x00 ∷ 0x00 ∷ 0x12 ∷ 0x34 ∷ 0x56 ∷ 0x78 ∷ 0x67 ∷ []) Eop 1 0
-    ≡ leaving (station nobody 0xABCD0005 (record { last = 5; elapsed = record { value = 0x12345678; epoch = 0xAF }; waiting = NoValue }) (counting 19)) TimeTaken bytes [] 0)
+    ≡ leaving (station nobody 0xABCD0005 (record { last = 5; elapsed = record { value = 0x12345678; epoch = 0xAF }; waiting = None }) (counting 19)) TimeTaken bytes [] 0)
     -- 00: it waits in the place of the other
     × (taking (start nobody) (0xFE ∷ 0xF3 ∷ 0x9F ∷ 0x00 ∷ 0x00 ∷ 0x00 ∷ 0x00 ∷ 0x12 ∷ 0x34 ∷ 0x56 ∷ 0x78 ∷ 0xCA ∷ []) Eop 1 0
-    ≡ leaving (station nobody 0xABCD0005 (clock 5 0x7400000 (Value (record { value = 0x12345678; epoch = 0x9F }))) (counting 19)) TimeTaken bytes [] 0)
+    ≡ leaving (station nobody 0xABCD0005 (clock 5 0x7400000 (Some (record { value = 0x12345678; epoch = 0x9F }))) (counting 19)) TimeTaken bytes [] 0)
     -- ended by EEP it is thrown away
     × (taking (start nobody) (0x43 ∷ 0xF3 ∷ 0xAF ∷ 0x01 ∷ 0x00 ∷ 0x00 ∷ 0x00 ∷ 0x12 ∷ 0x34 ∷ 0x56 ∷ 0x78 ∷ 0x67 ∷ []) Eep 1 0
     ≡ leaving (same nobody 16) TimeThrownAway bytes [] 0)

@@ -1,10 +1,9 @@
 -- Worked examples of fields, computed by the definitions: worked out by hand from document 01 ('Fields') and 000's Table 5-6.
-use Rattle.std.proofs.Common.{◌≡◌, ℕ, true, false, List, [], ◌∷◌, ◌++◌, map, get_or, replicate, refl}
+use Rattle.std.proofs.Common.{◌≡◌, ℕ, true, false, List, [], ◌∷◌, ◌++◌, map, get_or, replicate, refl, None}
 use Rattle.unit.specs.Clock.{time_code_written}
 use Rattle.unit.specs.Fields.{named, row_of, is_missing, right_of, offence_of, write_offence, swap_offence, link_information, values_of, field_bytes, divider_written}
 use Rattle.unit.specs.Act.{data_for}
 use Rattle.unit.specs.declared.fate.Status.TheVariants.{Success, ReadOnlyField, PlainDeviceId}
-use Rattle.unit.specs.declared.clock.Waiting.TheVariants.{NoValue}
 use Rattle.unit.specs.declared.owner.Owner.{Owner}
 use Rattle.unit.specs.declared.decide.Action.TheVariants.{ReadFields}
 use Rattle.unit.proofs.ExampleParts.{windows, owner, clock, fields, unit}
@@ -41,7 +40,7 @@ unfolding values_of link_information row_of
 in_order = refl
 
 -- the Time-Code counter reads the unit's last Time-Code
-last_code : data_for (ReadFields 0x80000 1) (unit 0xF0 4 (windows 0 []) 0 (owner 0 0 0 0) (clock 0x2B 0 NoValue)) 1 [] ≡ 0x00 ∷ 0x00 ∷ 0x00 ∷ 0x2B ∷ []
+last_code : data_for (ReadFields 0x80000 1) (unit 0xF0 4 (windows 0 []) 0 (owner 0 0 0 0) (clock 0x2B 0 None)) 1 [] ≡ 0x00 ∷ 0x00 ∷ 0x00 ∷ 0x2B ∷ []
 unfolding data_for values_of link_information row_of
 last_code = refl
 
@@ -101,7 +100,7 @@ address_lengths = refl
 -- ---- what is written
 
 -- Time-Code counter, last Time-Code 5: a whole word of 0 resets it, a word with one half of 0 does not
-counters : map (λ (word : ℕ). (time_code_written (clock 5 0 NoValue) word).last) (0 ∷ 1 ∷ 0x10000 ∷ []) ≡ 0 ∷ 5 ∷ 5 ∷ []
+counters : map (λ (word : ℕ). (time_code_written (clock 5 0 None) word).last) (0 ∷ 1 ∷ 0x10000 ∷ []) ≡ 0 ∷ 5 ∷ 5 ∷ []
 counters = refl
 
 -- divider, from 4 to 10 hexadecimal: below the minimum, at it, at the maximum, above it; the high half of the word does not count

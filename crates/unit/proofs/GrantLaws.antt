@@ -14,7 +14,7 @@ use Rattle.packets.specs.declared.path.Path.{Path}
 use Rattle.packets.proofs.ReadingLaws.{header_whole}
 use Rattle.unit.specs.Some.{some}
 use Rattle.unit.specs.Fate.{byte_of, is_success, fate_number}
-use Rattle.unit.specs.Windows.{holds, has_right, meets, used}
+use Rattle.unit.specs.Windows.{holds, has_right, ends_past, allows, used}
 use Rattle.unit.specs.Fields.{field_of}
 use Rattle.unit.specs.Usable.{usable_unit, usable}
 use Rattle.unit.specs.Given.{Arrived}
@@ -26,7 +26,6 @@ use Rattle.unit.specs.declared.judging.Sizes.{Sizes}
 use Rattle.unit.specs.declared.fate.Status.{Status}
 use Rattle.unit.specs.declared.windows.Window.{Window}
 use Rattle.unit.specs.declared.windows.Windows.{Windows}
-use Rattle.unit.specs.declared.windows.Question.TheVariants.{EndsPast, Allows}
 use Rattle.unit.specs.declared.decide.Action.{Action}
 use Rattle.unit.specs.declared.decide.Action.TheVariants.{Nothing}
 use Rattle.unit.specs.declared.decide.Plan.{Plan}
@@ -38,7 +37,7 @@ use Rattle.unit.proofs.DecideLaws.{writes, write_bit_is, memory_passed, fields_p
 
 -- ---- a span that a window holds is in memory, where no window ends past it
 
-holds_room : (kind : Kind) (at size n : ℕ) (w : Window) → meets (Allows kind at size) w ≡ true → meets (EndsPast n) w ≡ false → at + size ≤ n
+holds_room : (kind : Kind) (at size n : ℕ) (w : Window) → allows kind at size w ≡ true → ends_past n w ≡ false → at + size ≤ n
 holds_room kind at size n w a e =
     let held = second_true (leb w.start at) (leb (at + size) w.end) (first_true (leb w.start at && leb (at + size) w.end) (has_right kind w) a) in
     let x = leb-true (at + size) w.end held in
@@ -46,30 +45,30 @@ holds_room kind at size n w a e =
     omega (arith, x, y)
 
 pub window_room : (kind : Kind) (at size n : ℕ) (ws : List Window)
-    → some (meets (Allows kind at size)) ws ≡ true → some (meets (EndsPast n)) ws ≡ false → at + size ≤ n
+    → some (allows kind at size) ws ≡ true → some (ends_past n) ws ≡ false → at + size ≤ n
 window_room kind at size n [] a e = absurd (false≢true a)
 window_room kind at size n (w ∷ ws) a e =
-    go (meets (Allows kind at size) w) (meets (EndsPast n) w) refl refl (window_room kind at size n ws)
+    go (allows kind at size w) (ends_past n w) refl refl (window_room kind at size n ws)
   where
     Rest : Type 0
-    Rest = some (meets (Allows kind at size)) ws ≡ true → some (meets (EndsPast n)) ws ≡ false → at + size ≤ n
+    Rest = some (allows kind at size) ws ≡ true → some (ends_past n) ws ≡ false → at + size ≤ n
 
-    go : (s t : Bool) → meets (Allows kind at size) w ≡ s → meets (EndsPast n) w ≡ t → Rest → at + size ≤ n
+    go : (s t : Bool) → allows kind at size w ≡ s → ends_past n w ≡ t → Rest → at + size ≤ n
     go s true f g rest = absurd (false≢true (sym e ∙ rw g))
     go true false f g rest = holds_room kind at size n w f g
     go false false f g rest = rest (rw f at a) (rw g at e)
 
-pub usable_windows : (u : TheUnit) (n : ℕ) → usable u n ≡ true → some (meets (EndsPast n)) (used u.windows) ≡ false
+pub usable_windows : (u : TheUnit) (n : ℕ) → usable u n ≡ true → some (ends_past n) (used u.windows) ≡ false
 unfolding usable
 usable_windows u n e =
-    let past = some (meets (EndsPast n)) (used u.windows) in
+    let past = some (ends_past n) (used u.windows) in
     let all = first_true (leb 1 n && leb n 65536 && not past) (usable_unit u) e in
     not-true past (second_true (leb 1 n && leb n 65536) (not past) all)
 
 pub usable_size : (u : TheUnit) (n : ℕ) → usable u n ≡ true → n ≤ 65536
 unfolding usable
 usable_size u n e =
-    let past = some (meets (EndsPast n)) (used u.windows) in
+    let past = some (ends_past n) (used u.windows) in
     let all = first_true (leb 1 n && leb n 65536 && not past) (usable_unit u) e in
     leb-true n 65536 (second_true (leb 1 n) (leb n 65536) (first_true (leb 1 n && leb n 65536) (not past) all))
 
@@ -77,7 +76,7 @@ pub span_room : (u : TheUnit) (h : Header) (n : ℕ) → usable u n ≡ true →
 unfolding is_authorised
 span_room u h n e a =
     let ws = used u.windows in
-    let asked = some (meets (Allows (kind_in h) h.address (span_size h))) ws in
+    let asked = some (allows (kind_in h) h.address (span_size h)) ws in
     window_room (kind_in h) h.address (span_size h) n ws (second_true (eqb h.extended 0) asked a) (usable_windows u n e)
 
 -- ---- one window holds an authorised span, with the right

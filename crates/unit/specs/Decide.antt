@@ -13,14 +13,13 @@ use Rattle.packets.specs.declared.reading.End.{End}
 use Rattle.unit.specs.Some.{some}
 use Rattle.unit.specs.Fate.{or_else}
 use Rattle.unit.specs.Given.{Arrived}
-use Rattle.unit.specs.Windows.{meets, used}
+use Rattle.unit.specs.Windows.{allows, used}
 use Rattle.unit.specs.Owner.{is_owner}
 use Rattle.unit.specs.Fields.{field_of, named, is_missing, right_of, write_offence, swap_offence}
 use Rattle.unit.specs.declared.fate.Status.{Status}
 use Rattle.unit.specs.declared.fate.Status.TheVariants.{Success, UnusedCode, WrongKey, DataCrc, EarlyEop, TooMuchData, EndedByEep, VerifyOverrun}
 use Rattle.unit.specs.declared.fate.Status.TheVariants.{NotAuthorised, RmwLength, WrongAddress, NotOwner, NoSuchField}
 use Rattle.unit.specs.declared.windows.Windows.{Windows}
-use Rattle.unit.specs.declared.windows.Question.TheVariants.{Allows}
 use Rattle.unit.specs.declared.owner.Owner.{Owner}
 use Rattle.unit.specs.declared.unit.Unit.{Unit as TheUnit}
 
@@ -46,7 +45,7 @@ span_size h =
 
 -- Authorised: the extended address is 0, and one window holds the whole span with the right.
 unfoldable pub is_authorised : Windows → Header → Bool
-is_authorised w h = h.extended == 0 && some (meets (Allows (kind_in h) h.address (span_size h))) (used w)
+is_authorised w h = h.extended == 0 && some (allows (kind_in h) h.address (span_size h)) (used w)
 
 -- 11 RMW with L not 0, 2, 4, 6 or 8; 10 not authorised; 9 verified write with L above 1,024.
 unfoldable pub span_status : Windows → Header → Status

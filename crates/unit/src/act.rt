@@ -32,13 +32,19 @@ pub(crate) fn respond(
     requires { Readable plan.action (length memory.now) × (fate_number plan.fate ≡ 20 → Answerable plan.action h path (byte_of plan.status) (length reply.old)) }
     ensures { reply.new ≡ replied_to plan unit h path link (record { memory = memory.now; reply = reply.old }) }
 {
-    let fate = plan.fate;
-    if fate.number() != 20 {
+    if plan.fate.number() != 20 {
         return;
     }
-    let action = plan.action;
-    let status = plan.status;
-    answer(action, status.byte(), unit, h, path, link, memory, reply);
+    answer(
+        plan.action,
+        plan.status.byte(),
+        unit,
+        h,
+        path,
+        link,
+        memory,
+        reply,
+    );
 }
 
 fn answer(
@@ -55,15 +61,17 @@ fn answer(
     ensures { reply.new ≡ replied path h status (data_for action unit link memory.now) reply.old }
 {
     match action {
-        Action::Nothing => answer_nothing(status, h, path, reply),
-        Action::ReadMemory(at, count) => answer_memory(at, count, status, h, path, memory, reply),
+        Action::Nothing
+        | Action::Store(_, _, _)
+        | Action::StoreLast(_, _, _)
+        | Action::WriteField(_, _) => answer_nothing(status, h, path, reply),
+        Action::ReadMemory(at, count) | Action::Combine(at, _, count) => {
+            answer_memory(at, count, status, h, path, memory, reply);
+        }
         Action::RepeatByte(at, count) => {
             let byte = byte_at(memory, at, count);
             packets::write_repeated_reply(path, h, status, byte, count, reply);
         }
-        Action::Store(_, _, _) => answer_nothing(status, h, path, reply),
-        Action::StoreLast(_, _, _) => answer_nothing(status, h, path, reply),
-        Action::Combine(at, _, count) => answer_memory(at, count, status, h, path, memory, reply),
         Action::ReadFields(address, count) => {
             answer_fields(address, count, status, unit, h, path, link, reply);
         }
@@ -71,7 +79,6 @@ fn answer(
             let old = octets::bytes4(unit.owner.device);
             packets::write_reply(path, h, status, &old, reply);
         }
-        Action::WriteField(_, _) => answer_nothing(status, h, path, reply),
     }
 }
 
@@ -124,11 +131,9 @@ fn answer_fields(
     requires { (count ≤ 16) × (field_of address + count ≤ 2 ^ 14) }
     ensures { reply.new ≡ replied path h status (field_bytes (values_of unit.fields unit.owner unit.clock.last unit.links link) (named address count)) reply.old }
 {
-    let clock = unit.clock;
-    let v = fields::values(unit.fields, unit.owner, clock.last, unit.links, link);
+    let v = fields::values(unit.fields, unit.owner, unit.clock.last, unit.links, link);
     let bytes = fields::field_bytes(v, address, count);
-    let n = 4 * count;
-    packets::write_reply(path, h, status, &bytes[0..n], reply);
+    packets::write_reply(path, h, status, &bytes[..4 * count], reply);
 }
 
 // ---- memory
@@ -138,15 +143,15 @@ pub(crate) fn store(action: Action, packet: &[u8], memory: &mut [u8])
     ensures { memory.new ≡ stored action packet.now memory.old }
 {
     match action {
-        Action::Nothing => {}
-        Action::ReadMemory(_, _) => {}
-        Action::RepeatByte(_, _) => {}
+        Action::Nothing
+        | Action::ReadMemory(_, _)
+        | Action::RepeatByte(_, _)
+        | Action::ReadFields(_, _)
+        | Action::Swap(_, _)
+        | Action::WriteField(_, _) => {}
         Action::Store(at, from, count) => scatter(packet, from, count, memory, at),
         Action::StoreLast(at, from, count) => store_last(packet, from, count, memory, at),
         Action::Combine(at, from, count) => combine(packet, from, count, memory, at),
-        Action::ReadFields(_, _) => {}
-        Action::Swap(_, _) => {}
-        Action::WriteField(_, _) => {}
     }
 }
 
@@ -178,10 +183,8 @@ fn combine_with(packet: &[u8], from: usize, count: usize, read: &mut [u8])
     ensures { read.new ≡ placed 0 (combined (part 0 count read.old) (part from count packet.now) (part (from + count) count packet.now)) read.old }
 {
     let masks = from + count;
-    let mut i = 0;
-    while i < count {
+    for i in 0..count {
         read[i] = combine_byte(packet[masks + i], packet[from + i], read[i]);
-        i += 1;
     }
 }
 
@@ -198,18 +201,16 @@ pub(crate) fn change(unit: Unit, action: Action, initiator: u8, path: Path, link
     ensures { result ≡ changed action unit initiator path link }
 {
     match action {
-        Action::Nothing => unit,
-        Action::ReadMemory(_, _) => unit,
-        Action::RepeatByte(_, _) => unit,
-        Action::Store(_, _, _) => unit,
-        Action::StoreLast(_, _, _) => unit,
-        Action::Combine(_, _, _) => unit,
-        Action::ReadFields(_, _) => unit,
+        Action::Nothing
+        | Action::ReadMemory(_, _)
+        | Action::RepeatByte(_, _)
+        | Action::Store(_, _, _)
+        | Action::StoreLast(_, _, _)
+        | Action::Combine(_, _, _)
+        | Action::ReadFields(_, _) => unit,
         Action::Swap(new, expected) => {
-            let owner = unit.owner;
-            let mut u = unit;
-            u.owner = owner.swap(new, expected, initiator, path, link);
-            u
+            let owner = unit.owner.swap(new, expected, initiator, path, link);
+            Unit { owner, ..unit }
         }
         Action::WriteField(address, word) => write_field(unit, address, word),
     }
@@ -220,24 +221,20 @@ fn write_field(unit: Unit, address: u32, word: u32) -> Unit
     ensures { result ≡ field_written unit address word }
 {
     let row = fields::row_of(address);
-    let mut u = unit;
     if row == fields::TIME_CODE_COUNTER {
-        u.clock = clock::write_time_code(unit.clock, word);
-        return u;
+        let clock = clock::write_time_code(unit.clock, word);
+        return Unit { clock, ..unit };
     }
     if row == fields::DIVIDER {
-        u.fields = fields::write_divider(unit.fields, word);
-        return u;
+        let fields = fields::write_divider(unit.fields, word);
+        return Unit { fields, ..unit };
     }
-    u
+    unit
 }
 
 pub(crate) fn count(unit: Unit, fate: Fate) -> Unit
     ensures { result ≡ counted_unit fate unit }
 {
-    let counters = unit.counters;
-    let c = counted(counters, fate);
-    let mut u = unit;
-    u.counters = c;
-    u
+    let counters = counted(unit.counters, fate);
+    Unit { counters, ..unit }
 }

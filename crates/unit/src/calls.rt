@@ -1,9 +1,10 @@
 // The three calls on a unit (document 01, 'The terminal and its neighbours', 'Numbers a caller gets').
 ghost use Rattle.std.specs.Prelude.{◌≡◌, length};
 ghost use Rattle.unit.specs.Granted.{GrantedBy, GrantedTo};
-ghost use Rattle.unit.specs.Act.{counted_unit};
-ghost use Rattle.unit.specs.Calls.{without_reply as Calls·without_reply, acted, done, take_packet as Calls·take_packet, take_time_code as Calls·take_time_code, take_ticks as Calls·take_ticks};
+ghost use Rattle.unit.specs.Act.{counted_unit, with_clock};
+ghost use Rattle.unit.specs.Calls.{without_reply as Calls·without_reply, small_call as Calls·small_call, acted, done, take_packet as Calls·take_packet, take_time_code as Calls·take_time_code, take_ticks as Calls·take_ticks};
 
+use crate::clock::Clock;
 use crate::decide::Plan;
 use crate::fate::Fate;
 use crate::judging::{Judgement, Ruling, Sizes, judge_read};
@@ -43,24 +44,24 @@ pub fn take_packet(
 pub fn take_time_code(unit: Unit, byte: u8) -> Answer
     ensures { result ≡ Calls·take_time_code unit byte }
 {
-    if !unit.is_usable_alone() {
-        return without_reply(unit, Fate::Unusable);
-    }
-    let mut u = unit;
-    u.clock = clock::take_code(unit.clock, byte);
-    without_reply(u, Fate::TimeChanged)
+    small_call(unit, clock::take_code(unit.clock, byte))
 }
 
 // Takes a number of clock ticks.
 pub fn take_ticks(unit: Unit, ticks: u32) -> Answer
     ensures { result ≡ Calls·take_ticks unit ticks }
 {
+    small_call(unit, clock::add_ticks(unit.clock, ticks))
+}
+
+// A unit that is usable goes on with that clock.
+fn small_call(unit: Unit, clock: Clock) -> Answer
+    ensures { result ≡ Calls·small_call unit (with_clock unit clock) }
+{
     if !unit.is_usable_alone() {
         return without_reply(unit, Fate::Unusable);
     }
-    let mut u = unit;
-    u.clock = clock::add_ticks(unit.clock, ticks);
-    without_reply(u, Fate::TimeChanged)
+    without_reply(Unit { clock, ..unit }, Fate::TimeChanged)
 }
 
 // Without a reply, and counted or not.
@@ -93,16 +94,22 @@ fn carry_out(
     requires { GrantedBy judgement.ruling judgement.path (length bytes.now) (length memory.old) (length reply.old) }
     ensures { record { answer = result; memory = memory.new; reply = reply.new } ≡ done judgement unit bytes.now link (record { memory = memory.old; reply = reply.old }) }
 {
-    let path = judgement.path;
-    let ruling = judgement.ruling;
-    match ruling {
+    match judgement.ruling {
         Ruling::Ends(fate) => ended(unit, fate),
         Ruling::SetsTime(time) => {
-            let mut u = unit;
-            u.clock = clock::set_time(unit.clock, time);
-            ended(u, Fate::TimeTaken)
+            let clock = clock::set_time(unit.clock, time);
+            ended(Unit { clock, ..unit }, Fate::TimeTaken)
         }
-        Ruling::Planned(h, plan) => follow(plan, unit, h, path, bytes, link, memory, reply),
+        Ruling::Planned(h, plan) => follow(
+            plan,
+            unit,
+            h,
+            judgement.path,
+            bytes,
+            link,
+            memory,
+            reply,
+        ),
     }
 }
 
@@ -121,13 +128,11 @@ fn follow(
     ensures { record { answer = result; memory = memory.new; reply = reply.new } ≡ acted plan unit h path bytes.now link (record { memory = memory.old; reply = reply.old }) }
 {
     act::respond(plan, unit, h, path, link, memory, reply);
-    let action = plan.action;
-    act::store(action, bytes, memory);
-    let fate = plan.fate;
-    let changed = act::change(unit, action, h.initiator, path, link);
+    act::store(plan.action, bytes, memory);
+    let changed = act::change(unit, plan.action, h.initiator, path, link);
     Answer {
-        unit: act::count(changed, fate),
-        fate,
+        unit: act::count(changed, plan.fate),
+        fate: plan.fate,
         length: plan.length,
     }
 }

@@ -18,8 +18,7 @@ use crate::fate::{Fate, Status};
 use crate::fields;
 use crate::owner::Owner;
 use crate::unit::Unit;
-use crate::whole::smaller;
-use crate::windows::{Question, Windows, any_window};
+use crate::windows::Windows;
 use packets::{End, Header, Instruction, Kind, Path};
 
 // ---- the first half: what the header decides
@@ -69,7 +68,7 @@ fn is_authorised(windows: Windows, h: Header, kind: Kind) -> bool
         return false;
     }
     let size = span_size(h, kind);
-    any_window(windows, Question::Allows(kind, h.address, size))
+    windows.any_allows(kind, h.address, size)
 }
 
 // The checks of RMAP behind the opening.
@@ -275,7 +274,7 @@ fn memory_action(h: Header, kind: Kind, status: Status, from: usize, k: usize) -
         Kind::Unused => Action::Nothing,
         Kind::Read => read_action(i, status, at, h.length),
         Kind::ReadModifyWrite => rmw_action(status, at, from, n / 2),
-        Kind::Write => write_action(i, status, at, from, smaller(k, n)),
+        Kind::Write => write_action(i, status, at, from, k.min(n)),
     }
 }
 

@@ -9,7 +9,7 @@ use crate::owner::Owner;
 use packets::Path;
 
 // The values as held. What a read shows of the owner, the links and the Time-Code is not held here.
-#[derive(Clone, Copy)]
+#[derive(Clone, Copy, Default)]
 pub struct Fields {
     // Protocol 0: vendor and product, version, status, Active Links, Link Information, unit vendor and product, unit serial.
     pub vendor: u32,

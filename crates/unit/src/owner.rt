@@ -29,9 +29,10 @@ impl Owner {
     pub(crate) fn is(self, initiator: u8, path: Path, link: u8) -> bool
         ensures { result ≡ is_owner self initiator path link }
     {
-        let kept = self.path;
-        let by_path = kept.same(path);
-        (self.device != 0) & (self.initiator == initiator) & by_path & (self.link == link)
+        (self.device != 0)
+            & (self.initiator == initiator)
+            & self.path.same(path)
+            & (self.link == link)
     }
 
     // After a swap of Device ID that is allowed.
@@ -47,12 +48,9 @@ impl Owner {
         if new == 0 {
             return Owner::none();
         }
-        let kept = self.path;
         Owner {
             device: new,
-            initiator: self.initiator,
-            path: kept,
-            link: self.link,
+            ..self
         }
     }
 

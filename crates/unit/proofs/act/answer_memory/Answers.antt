@@ -1,7 +1,7 @@
 -- `unit::act::answer_memory` meets its contract: the bytes have room in their place, and the reply is written around them.
 use Rattle.octets.specs.Places.{part}
 use Rattle.octets.proofs.PlaceLaws.{length_part}
-use Rattle.packets.proofs.ReplyLaws.{carried_few, carried_room, gathered_reply}
+use Rattle.packets.proofs.ReplyLaws.{carried_room, gathered_reply}
 use Rattle.std.proofs.Common.{arith}
 use Rattle.unit.proofs.act.answer_memory.Goals as goal
 
@@ -11,13 +11,6 @@ gather-requires c =
     let w = c.requires in
     let room = carried_room a.path a.h a.status a.count a.reply.now w.1.0 w.1.1 in
     (w.0, omega (arith, room, c.data_place.ensures))
-
-pub overflow_cast-count : goal.overflow_cast-count
-overflow_cast-count c =
-    let a = c.args in
-    let w = c.requires in
-    let few = carried_few a.path a.h a.status a.count a.reply.now w.1.0 w.1.1 in
-    omega (arith, few)
 
 pub returns : goal.returns
 returns c =

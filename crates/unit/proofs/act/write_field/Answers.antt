@@ -5,7 +5,7 @@ use Rattle.unit.proofs.act.write_field.Goals as goal
 
 pub returns-then-row-eq-TIME_CODE_COUNTER : goal.returns-then-row-eq-TIME_CODE_COUNTER
 unfolding field_written
-returns-then-row-eq-TIME_CODE_COUNTER c = rw (← c.row_of-row.ensures.answers, eq-eqb _ _ c.if-row-eq-TIME_CODE_COUNTER.true, c.write_time_code-u.ensures)
+returns-then-row-eq-TIME_CODE_COUNTER c = rw (← c.row_of-row.ensures.answers, eq-eqb _ _ c.if-row-eq-TIME_CODE_COUNTER.true, c.write_time_code-clock.ensures)
 
 pub returns-then-row-eq-DIVIDER : goal.returns-then-row-eq-DIVIDER
 unfolding field_written
@@ -14,7 +14,7 @@ returns-then-row-eq-DIVIDER c =
       ← c.row_of-row.ensures.answers,
       ne_eqb _ _ c.if-row-eq-TIME_CODE_COUNTER.false,
       eq-eqb _ _ c.if-row-eq-DIVIDER.true,
-      c.write_divider-u.ensures,
+      c.write_divider-fields.ensures,
     )
 
 pub returns : goal.returns

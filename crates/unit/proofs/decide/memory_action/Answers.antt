@@ -16,4 +16,4 @@ returns-in-ReadModifyWrite c =
 
 pub returns-in-Write : goal.returns-in-Write
 returns-in-Write c =
-    rw (sym c.requires ∙ c.in-Write.is, ← c.smaller.ensures) c.write_action.ensures
+    rw (sym c.requires ∙ c.in-Write.is, ← c.min.ensures) c.write_action.ensures
