@@ -11,7 +11,8 @@ ghost use Rattle.unit.specs.Fields.{field_of, named, values_of, field_bytes};
 
 use crate::counters::counted;
 use crate::decide::{Action, Plan};
-use crate::fate::Fate;
+use crate::fate::{Fate, status_byte};
+use crate::fields::Named;
 use crate::memory::{gather, scatter};
 use crate::unit::Unit;
 use crate::{clock, fields};
@@ -37,8 +38,8 @@ pub(crate) fn respond(
         return;
     }
     let action = plan.action;
-    let status = plan.status;
-    answer(action, status.byte(), unit, h, path, link, memory, reply);
+    let status = status_byte(plan.status);
+    answer(action, status, unit, h, path, link, memory, reply);
 }
 
 fn answer(
@@ -126,7 +127,8 @@ fn answer_fields(
 {
     let clock = unit.clock;
     let v = fields::values(unit.fields, unit.owner, clock.last, unit.links, link);
-    let bytes = fields::field_bytes(v, address, count);
+    let named = Named { address, count };
+    let bytes = named.bytes(v);
     let n = 4 * count;
     packets::write_reply(path, h, status, &bytes[0..n], reply);
 }

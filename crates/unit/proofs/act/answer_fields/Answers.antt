@@ -8,5 +8,5 @@ returns c =
     let e : 4 * n - 0 ≡ 4 * n = omega arith in
     rw (
       ← c.values-v.ensures,
-      ← c.field_bytes-bytes.ensures,
+      ← c.bytes-bytes.ensures,
     ) (rw e at c.write_reply.ensures.leaves)

@@ -10,9 +10,9 @@ returns-then-number-ne20 c = rw (← c.number.ensures, ne_eqb _ _ c.if-number-ne
 pub answer-requires : goal.answer-requires
 answer-requires c =
     let w = c.requires in
-    (w.0, rw c.byte.ensures (w.1 (sym c.number.ensures ∙ c.if-number-ne20.false)))
+    (w.0, rw c.status_byte-status.ensures (w.1 (sym c.number.ensures ∙ c.if-number-ne20.false)))
 
 pub returns : goal.returns
 unfolding replied_to
 returns c =
-    rw (← c.number.ensures, eq-eqb _ _ c.if-number-ne20.false, ← c.byte.ensures) c.answer.ensures
+    rw (← c.number.ensures, eq-eqb _ _ c.if-number-ne20.false, ← c.status_byte-status.ensures) c.answer.ensures
