@@ -207,7 +207,7 @@ module _ (u : TheUnit) (p : Arrived) (lent : Lent) (Q : Outcome → Type 0) wher
       (λ e n. absurd (omega (arith, n))) (λ e f n. absurd (omega (arith, n))) (λ e f why g n. absurd (omega (arith, n, (unread_number why).1)))
       (λ e f g w n. absurd (omega (arith, n)))
       (λ e f g t w n. taken t (rw (time_bare p.packet u.number g) at w))
-      (λ e f h g n. absurd (command_fate u h (path_in u p) (as_read p) lent (λ f. fate_number f ≢ 19) (λ n. omega (arith, n)) (λ s n. omega (arith, n)) (λ s e n. omega (arith, n)) (λ n. omega (arith, n)) n))
+      (λ e f h g n. absurd (command_fate u h (path_in u p) (as_read p) lent (λ f. fate_number f ≢ 19) (λ n. omega (arith, n)) (λ s n. omega (arith, n)) (λ o n. omega (arith, n)) (λ n. omega (arith, n)) n))
 
 pub taken_is_made : TakenIsMade ours
 unfolding counted_for

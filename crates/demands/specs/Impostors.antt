@@ -1,5 +1,5 @@
 -- Impostors (document 01, 'What a promise has to say'): terminals that a demand has to shut out.
-use Rattle.std.specs.Prelude.{◌≡◌, Bool, true, cond, ◌&&◌, ◌||◌, List, [], ℕ, ◌+◌, ◌/◌, ◌%◌, ◌^◌, eqb, length, get_or, drop, replicate, Option, None, Some}
+use Rattle.std.specs.Prelude.{◌≡◌, Bool, true, cond, ◌&&◌, ◌||◌, List, [], ℕ, ◌+◌, ◌/◌, ◌%◌, ◌^◌, eqb, length, get_or, drop, replicate, Option, None, Some, Ok}
 use Rattle.octets.specs.Places.{part}
 use Rattle.octets.specs.Numbers.{number}
 use Rattle.octets.specs.Crc.{crc}
@@ -23,7 +23,7 @@ use Rattle.unit.specs.Act.{with_clock, with_counters, counted_unit}
 use Rattle.unit.specs.Given.{Arrived, Lent, sizes_of}
 use Rattle.unit.specs.Judge.{judged_as, is_link}
 use Rattle.unit.specs.Calls.{Outcome, without_reply, leaving, done, take_read, take_packet, small_call, take_time_code, take_ticks}
-use Rattle.unit.specs.declared.fate.Status.TheVariants.{Success, NotAuthorised}
+use Rattle.unit.specs.declared.fate.Offence.TheVariants.{NotAuthorised}
 use Rattle.unit.specs.declared.fate.Fate.TheVariants.{NotObeyed, Obeyed, Replied}
 use Rattle.unit.specs.declared.clock.Elapsed.{Elapsed}
 use Rattle.unit.specs.declared.clock.Clock.{Clock}
@@ -56,7 +56,7 @@ does_nothing = faking (λ u p lent. leaving (without_reply Obeyed u) lent)
 -- A reply with status 0 and without data, counted as such, and no effect.
 abbrev pub acknowledged : TheUnit → Header → Path → Lent → Outcome
 acknowledged u h path lent = record {
-  answer = record { unit = counted_unit (Replied Success) u; fate = Replied Success; length = reply_length path h 0 0 };
+  answer = record { unit = counted_unit (Replied (Ok tt)) u; fate = Replied (Ok tt); length = reply_length path h 0 0 };
   memory = lent.memory;
   reply = replied path h 0 [] lent.reply;
 }

@@ -2,7 +2,7 @@
 // reply, the CRC of the whole reply buffer, and the reply's first bytes.
 use crate::show;
 use packets::End;
-use unit::{Answer, Clock, Elapsed, Fate, Fields, Owner, Told, Unit, Window};
+use unit::{Answer, Clock, Elapsed, Fate, Fields, Owner, Unit, Window};
 
 // The unit as the last line left it, and how much of memory is lent to it.
 #[derive(Clone, Copy)]
@@ -158,8 +158,8 @@ fn told(name: &[u8], fate: Fate) {
     io::print_decimal(1, fate.number() as u64);
     let status = fate.status();
     match status {
-        Told::Nothing => show::text(b" -"),
-        Told::Byte(b) => show::number(b" ", b as u64, 2),
+        None => show::text(b" -"),
+        Some(b) => show::number(b" ", b as u64, 2),
     }
 }
 

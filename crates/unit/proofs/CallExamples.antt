@@ -1,6 +1,6 @@
 -- Worked examples of what a call is judged by and what it leaves, computed by the definitions: worked out by hand from document 01 ('Numbers a caller
 -- gets', 'Time').
-use Rattle.std.proofs.Common.{◌≡◌, ℕ, ◌-◌, ◌^◌, true, false, List, [], ◌∷◌, ◌++◌, map, replicate, refl, Option, None, Some}
+use Rattle.std.proofs.Common.{◌≡◌, ℕ, ◌-◌, ◌^◌, true, false, List, [], ◌∷◌, ◌++◌, map, replicate, refl, Option, None, Some, Ok, Err}
 use Rattle.octets.specs.Crc.{crc, mirrored, bits, remainder, message, modulo}
 use Rattle.packets.specs.Reading.{read_protocol, read_packet}
 use Rattle.packets.specs.Time.{time_number_of, read_time}
@@ -18,9 +18,8 @@ use Rattle.unit.specs.Usable.{usable_unit, usable}
 use Rattle.unit.specs.Given.{Lent}
 use Rattle.unit.specs.Judge.{time_ruling, is_link, judged, fate_in}
 use Rattle.unit.specs.Calls.{done_by, take_time_code, take_ticks}
-use Rattle.unit.specs.declared.fate.Status.TheVariants.{Success, DataCrc, PlainDeviceId}
+use Rattle.unit.specs.declared.fate.Offence.TheVariants.{DataCrc, PlainDeviceId}
 use Rattle.unit.specs.declared.fate.Fate.TheVariants.{TimeChanged, Unusable, NoSuchLink, NoRoom, Unread, TimeThrownAway, NotObeyed, Obeyed, TimeTaken, Replied}
-use Rattle.unit.specs.declared.fate.Told.TheVariants.{Nothing, Byte}
 use Rattle.unit.specs.declared.judging.Ruling.{Ruling}
 use Rattle.unit.specs.declared.judging.Ruling.TheVariants.{Ends, SetsTime}
 use Rattle.unit.specs.declared.clock.Elapsed.{Elapsed}
@@ -150,16 +149,16 @@ small_fates = (refl, refl, refl, refl, refl, refl, refl)
 -- 11 is counted in the first and 20 in the tenth, both in the total; what is below 11 in none
 counted :
     (counted_for (Unread Incomplete) (replicate 11 7) ≡ 8 ∷ 7 ∷ 7 ∷ 7 ∷ 7 ∷ 7 ∷ 7 ∷ 7 ∷ 7 ∷ 7 ∷ 8 ∷ [])
-    × (counted_for (Replied Success) (replicate 11 7) ≡ 7 ∷ 7 ∷ 7 ∷ 7 ∷ 7 ∷ 7 ∷ 7 ∷ 7 ∷ 7 ∷ 8 ∷ 8 ∷ [])
+    × (counted_for (Replied (Ok tt)) (replicate 11 7) ≡ 7 ∷ 7 ∷ 7 ∷ 7 ∷ 7 ∷ 7 ∷ 7 ∷ 7 ∷ 7 ∷ 8 ∷ 8 ∷ [])
     × (counted_for NoRoom (replicate 11 7) ≡ replicate 11 7)
 unfolding counted_for
 counted = (refl, refl, refl)
 
 -- 17, 18 (status 0) and 20 carry a status, the others none
 told :
-    (map fate_status (NotObeyed DataCrc ∷ Obeyed ∷ Replied Success ∷ Replied PlainDeviceId ∷ []) ≡ Byte 4 ∷ Byte 0 ∷ Byte 0 ∷ Byte 0xF3 ∷ [])
+    (map fate_status (NotObeyed DataCrc ∷ Obeyed ∷ Replied (Ok tt) ∷ Replied (Err PlainDeviceId) ∷ []) ≡ Some 4 ∷ Some 0 ∷ Some 0 ∷ Some 0xF3 ∷ [])
     × (map fate_status
     (TimeChanged ∷ Unusable ∷ NoSuchLink ∷ NoRoom ∷ Unread Incomplete ∷ Unread UnknownProtocol ∷ Unread ExtendedProtocol ∷ Unread Reply ∷ Unread HeaderCrc
     ∷ TimeThrownAway ∷ TimeTaken ∷ [])
-    ≡ replicate 11 Nothing)
+    ≡ replicate 11 None)
 told = (refl, refl)

@@ -1,9 +1,9 @@
 -- Worked examples of fields, computed by the definitions: worked out by hand from document 01 ('Fields') and 000's Table 5-6.
-use Rattle.std.proofs.Common.{◌≡◌, ℕ, true, false, List, [], ◌∷◌, ◌++◌, map, get_or, replicate, refl, None}
+use Rattle.std.proofs.Common.{◌≡◌, ℕ, true, false, List, [], ◌∷◌, ◌++◌, map, get_or, replicate, refl, None, Ok, Err}
 use Rattle.unit.specs.Clock.{time_code_written}
 use Rattle.unit.specs.Fields.{named, row_of, is_missing, right_of, offence_of, write_offence, swap_offence, link_information, values_of, field_bytes, divider_written}
 use Rattle.unit.specs.Act.{data_for}
-use Rattle.unit.specs.declared.fate.Status.TheVariants.{Success, ReadOnlyField, PlainDeviceId}
+use Rattle.unit.specs.declared.fate.Offence.TheVariants.{ReadOnlyField, PlainDeviceId}
 use Rattle.unit.specs.declared.owner.Owner.{Owner}
 use Rattle.unit.specs.declared.decide.Action.TheVariants.{ReadFields}
 use Rattle.unit.proofs.ExampleParts.{windows, owner, clock, fields, unit}
@@ -61,17 +61,17 @@ not_there = refl
 
 -- a plain write: F3 at Device ID, none at Time-Code counter and divider, F2 at the others
 write_offends : map (λ (a : ℕ). offence_of (right_of a)) ours
-    ≡ replicate 8 ReadOnlyField ++ (PlainDeviceId ∷ ReadOnlyField ∷ ReadOnlyField ∷ Success ∷ ReadOnlyField ∷ ReadOnlyField ∷ Success ∷ [])
+    ≡ replicate 8 (Err ReadOnlyField) ++ (Err PlainDeviceId ∷ Err ReadOnlyField ∷ Err ReadOnlyField ∷ Ok tt ∷ Err ReadOnlyField ∷ Err ReadOnlyField ∷ Ok tt ∷ [])
 unfolding row_of
 write_offends = refl
 
 -- the lowest that offends decides: Time-Code counter and base rate, rate range and divider
-lowest : map (λ (a : ℕ). write_offence (named a 2)) (0x80000 ∷ 0x80002 ∷ []) ≡ ReadOnlyField ∷ ReadOnlyField ∷ []
+lowest : map (λ (a : ℕ). write_offence (named a 2)) (0x80000 ∷ 0x80002 ∷ []) ≡ Err ReadOnlyField ∷ Err ReadOnlyField ∷ []
 unfolding row_of
 lowest = refl
 
 -- a swap: F2 at any but Device ID
-swap_offends : map (λ (a : ℕ). swap_offence (right_of a)) ours ≡ replicate 8 ReadOnlyField ++ (Success ∷ replicate 6 ReadOnlyField)
+swap_offends : map (λ (a : ℕ). swap_offence (right_of a)) ours ≡ replicate 8 (Err ReadOnlyField) ++ (Ok tt ∷ replicate 6 (Err ReadOnlyField))
 unfolding row_of
 swap_offends = refl
 

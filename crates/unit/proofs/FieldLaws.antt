@@ -1,5 +1,5 @@
 -- Laws of fields.
-use Rattle.std.proofs.Common.{◌≡◌, ℕ, zero, suc, ◌+◌, ◌*◌, ◌/◌, ◌^◌, ◌<◌, ◌≤◌, Bool, true, false, cond, ◌&&◌, ◌||◌, eqb, ltb, leb, ◌⊎◌, List, [], ◌∷◌, ◌++◌, length, get_or, take, drop, sym, refl, ap, ◌∙◌, inl, inr, append_assoc, append-nil, add-zero, add-one, arith, length-append, drop_of_length-le, drop-cons, ltb-true, eqb-true, leb-true}
+use Rattle.std.proofs.Common.{◌≡◌, ℕ, zero, suc, ◌+◌, ◌*◌, ◌/◌, ◌^◌, ◌<◌, ◌≤◌, Bool, true, false, cond, ◌&&◌, ◌||◌, eqb, ltb, leb, ◌⊎◌, List, [], ◌∷◌, ◌++◌, length, get_or, take, drop, sym, refl, ap, ◌∙◌, inl, inr, append_assoc, append-nil, add-zero, add-one, arith, length-append, drop_of_length-le, drop-cons, ltb-true, eqb-true, leb-true, Ok, Err}
 use mathlib.Core.Bool.{false≢true}
 use Rattle.packets.specs.Instruction.{code_of}
 use Rattle.packets.specs.declared.header.Header.{Header}
@@ -14,8 +14,7 @@ use Rattle.unit.specs.Fate.{is_success, or_else}
 use Rattle.unit.specs.Fields.{above_field, field_of, named, device_id, time_code_counter, divider, missing, row_of, row_right, right_of, offence_of, write_offence, swap_offence, field_bytes}
 use Rattle.packets.specs.Header.{kind_in}
 use Rattle.unit.specs.Decide.{field_count, is_field_length, names_fields}
-use Rattle.unit.specs.declared.fate.Status.{Status}
-use Rattle.unit.specs.declared.fate.Status.TheVariants.{Success}
+use Rattle.unit.specs.declared.fate.Offence.{Offence}
 use Rattle.unit.specs.declared.fields.Right.TheVariants.{Missing, ReadOnly, Swapped, Written}
 use Rattle.unit.proofs.FateLaws.{or_else_law}
 
@@ -54,14 +53,13 @@ module _ (l : List ℕ) where
   offence_at : (i : ℕ) → i < length l → write_offence (drop i l) ≡ or_else (offence_of (right_of (get_or l i 0))) (write_offence (drop (i + 1) l))
   offence_at i h = rw (drop-cons l i 0 h, add-one)
 
-  pub offence_found : (i : ℕ) {s : Status} → i < length l → s ≡ offence_of (right_of (get_or l i 0)) → is_success s ≡ false → write_offence (drop i l) ≡ s
-  offence_found i h e f = offence_at i h ∙ rw (← e, f)
+  pub offence_found : (i : ℕ) {offence : Offence} → i < length l → offence_of (right_of (get_or l i 0)) ≡ Err offence → write_offence (drop i l) ≡ Err offence
+  offence_found i h e = offence_at i h ∙ rw e
 
-  pub offence_none : (i : ℕ) {s : Status} → i < length l → s ≡ offence_of (right_of (get_or l i 0)) → is_success s ≡ true
-      → write_offence (drop i l) ≡ write_offence (drop (i + 1) l)
-  offence_none i h e f = offence_at i h ∙ rw (← e, f)
+  pub offence_none : (i : ℕ) → i < length l → offence_of (right_of (get_or l i 0)) ≡ Ok tt → write_offence (drop i l) ≡ write_offence (drop (i + 1) l)
+  offence_none i h e = offence_at i h ∙ rw e
 
-  pub offence_end : (i : ℕ) → length l ≤ i → write_offence (drop i l) ≡ Success
+  pub offence_end : (i : ℕ) → length l ≤ i → write_offence (drop i l) ≡ (Ok tt)
   offence_end i h = rw (drop_of_length-le l {i = i} h)
 
 -- ---- the bytes of fields, one field after the other

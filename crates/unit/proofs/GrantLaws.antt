@@ -13,7 +13,7 @@ use Rattle.packets.specs.Reading.{read_packet}
 use Rattle.packets.specs.declared.path.Path.{Path}
 use Rattle.packets.proofs.ReadingLaws.{header_whole}
 use Rattle.unit.specs.Some.{some}
-use Rattle.unit.specs.Fate.{byte_of, is_success, fate_number}
+use Rattle.unit.specs.Fate.{byte_of, is_success, fate_number, Status}
 use Rattle.unit.specs.Windows.{holds, has_right, ends_past, allows, used}
 use Rattle.unit.specs.Fields.{field_of}
 use Rattle.unit.specs.Usable.{usable_unit, usable}
@@ -23,13 +23,13 @@ use Rattle.unit.specs.Plan.{action_of, memory_action, field_action_of, reply_cou
 use Rattle.unit.specs.Judge.{judged}
 use Rattle.unit.specs.Granted.{Readable, Granted, Gatherable, Answerable, GrantedBy}
 use Rattle.unit.specs.declared.judging.Sizes.{Sizes}
-use Rattle.unit.specs.declared.fate.Status.{Status}
 use Rattle.unit.specs.declared.windows.Window.{Window}
 use Rattle.unit.specs.declared.windows.Windows.{Windows}
 use Rattle.unit.specs.declared.decide.Action.{Action}
 use Rattle.unit.specs.declared.decide.Action.TheVariants.{Nothing}
 use Rattle.unit.specs.declared.decide.Plan.{Plan}
 use Rattle.unit.specs.declared.unit.Unit.{Unit as TheUnit}
+use Rattle.unit.proofs.FateLaws.{success_byte}
 use Rattle.unit.proofs.FieldLaws.{named_last}
 use Rattle.unit.proofs.JudgeLaws.{judged_is}
 use Rattle.unit.proofs.PlanLaws.{action_is, memory_action_in, field_action_in, planned_is, decided_is, decided_has}
@@ -124,7 +124,7 @@ fields_granted Write h p from size n e r = (tt, tt)
 gatherable : (h : Header) (path : Path) (s : Status) (count room : ℕ) → is_success s ≡ true → is_write h.instruction ≡ false → count < 256 ^ 3
     → reply_length path h (byte_of s) count ≤ room → Gatherable count h path (byte_of s) room
 gatherable h path s count room e w few fits =
-    let c : carries_data h (byte_of s) ≡ true = rw w e in
+    let c : carries_data h (byte_of s) ≡ true = rw (w, ← success_byte s) e in
     (c, rw (c, lt-ltb count (256 ^ 3) few, le-leb (reply_length path h (byte_of s) count) room fits))
 
 memory_answerable : (h : Header) (path : Path) (s : Status) (from k n room : ℕ) → n ≤ 65536 → Readable (memory_action h s from k) n
@@ -180,7 +180,7 @@ module _ (u : TheUnit) (h : Header) (path : Path) (p : Arrived) (n : ℕ) (works
   planned_fits : (s : Status) (a : Action) (room : ℕ) → (reply_length path h (byte_of s) (reply_count h) ≤ room → Answerable a h path (byte_of s) room)
       → Fitting room (planned_for h path s a room)
   planned_fits s a room f =
-      planned_is h path s a room (Fitting room) (λ w l r. tt) (λ w l r. f l) (λ w e r. absurd (omega (arith, r))) (λ w e r. absurd (omega (arith, r)))
+      planned_is h path s a room (Fitting room) (λ w l r. tt) (λ w l r. f l) (λ w e r. absurd (omega (arith, r))) (λ w o e r. absurd (omega (arith, r)))
 
   pub answerable : (room : ℕ) → Fitting room (decided u h path p room)
   unfolding reply_count

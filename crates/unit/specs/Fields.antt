@@ -1,12 +1,11 @@
 -- The fields of plug-and-play (document 01, 'Fields'; 000, 5.2.4.4.4, 5.3.3 and 5.3.4).
-use Rattle.std.specs.Prelude.{ℕ, zero, suc, ◌+◌, ◌*◌, ◌/◌, ◌%◌, ◌^◌, Bool, cond, ◌&&◌, ◌||◌, List, [], ◌∷◌, ◌++◌, length, ◌==◌, nat_lt, slice_index}
+use Rattle.std.specs.Prelude.{ℕ, zero, suc, ◌+◌, ◌*◌, ◌/◌, ◌%◌, ◌^◌, Bool, cond, ◌&&◌, ◌||◌, List, [], ◌∷◌, ◌++◌, length, ◌==◌, nat_lt, slice_index, Ok, Err}
 use Rattle.octets.specs.Places.{part}
 use Rattle.octets.specs.Numbers.{number, bytes_of}
 use Rattle.packets.specs.Path.{path_bytes}
 use Rattle.packets.specs.declared.path.Path.{Path}
-use Rattle.unit.specs.Fate.{or_else}
-use Rattle.unit.specs.declared.fate.Status.{Status}
-use Rattle.unit.specs.declared.fate.Status.TheVariants.{Success, NoSuchField, ReadOnlyField, PlainDeviceId}
+use Rattle.unit.specs.Fate.{Status, or_else}
+use Rattle.unit.specs.declared.fate.Offence.TheVariants.{NoSuchField, ReadOnlyField, PlainDeviceId}
 use Rattle.unit.specs.declared.fields.Right.{Right}
 use Rattle.unit.specs.declared.fields.Right.TheVariants.{Missing, ReadOnly, Swapped, Written}
 use Rattle.unit.specs.declared.fields.Fields.{Fields}
@@ -63,21 +62,21 @@ right_of address = row_right (row_of address)
 
 -- F2: write with a read-only field. F3: plain write to Device ID. (F1 goes before both.) The lowest field that offends decides.
 abbrev pub offence_of : Right → Status
-offence_of Missing = NoSuchField
-offence_of ReadOnly = ReadOnlyField
-offence_of Swapped = PlainDeviceId
-offence_of Written = Success
+offence_of Missing = Err NoSuchField
+offence_of ReadOnly = Err ReadOnlyField
+offence_of Swapped = Err PlainDeviceId
+offence_of Written = Ok tt
 
 abbrev pub write_offence : List ℕ → Status
-write_offence [] = Success
+write_offence [] = Ok tt
 write_offence (address ∷ rest) = or_else (offence_of (right_of address)) (write_offence rest)
 
 -- F2: RMW on a field other than Device ID.
 abbrev pub swap_offence : Right → Status
-swap_offence Missing = NoSuchField
-swap_offence ReadOnly = ReadOnlyField
-swap_offence Swapped = Success
-swap_offence Written = ReadOnlyField
+swap_offence Missing = Err NoSuchField
+swap_offence ReadOnly = Err ReadOnlyField
+swap_offence Swapped = Ok tt
+swap_offence Written = Err ReadOnlyField
 
 -- A number in its place of a word, `width` bits from bit `low` on, and what a word holds in such a place.
 abbrev pub in_place : ℕ → ℕ → ℕ → ℕ

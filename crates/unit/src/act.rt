@@ -11,7 +11,8 @@ ghost use Rattle.unit.specs.Fields.{field_of, named, values_of, field_bytes};
 
 use crate::counters::counted;
 use crate::decide::{Action, Plan};
-use crate::fate::Fate;
+use crate::fate::{Fate, status_byte};
+use crate::fields::Named;
 use crate::memory::{gather, scatter};
 use crate::unit::Unit;
 use crate::{clock, fields};
@@ -35,16 +36,8 @@ pub(crate) fn respond(
     if plan.fate.number() != 20 {
         return;
     }
-    answer(
-        plan.action,
-        plan.status.byte(),
-        unit,
-        h,
-        path,
-        link,
-        memory,
-        reply,
-    );
+    let status = status_byte(plan.status);
+    answer(plan.action, status, unit, h, path, link, memory, reply);
 }
 
 fn answer(
@@ -132,7 +125,7 @@ fn answer_fields(
     ensures { reply.new ≡ replied path h status (field_bytes (values_of unit.fields unit.owner unit.clock.last unit.links link) (named address count)) reply.old }
 {
     let v = fields::values(unit.fields, unit.owner, unit.clock.last, unit.links, link);
-    let bytes = fields::field_bytes(v, address, count);
+    let bytes = Named { address, count }.bytes(v);
     packets::write_reply(path, h, status, &bytes[..4 * count], reply);
 }
 

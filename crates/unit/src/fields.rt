@@ -2,9 +2,9 @@
 ghost use Rattle.std.specs.Prelude.{◌≡◌, ◌+◌, ◌*◌, ◌^◌, ◌≤◌, take};
 ghost use Rattle.unit.specs.Some.{some};
 ghost use Rattle.unit.specs.Fields.{named, row_of as Fields·row_of, is_missing, right_of as Fields·right_of, offence_of as Fields·offence_of, write_offence as Fields·write_offence, swap_offence as Fields·swap_offence};
-ghost use Rattle.unit.specs.Fields.{link_information as Fields·link_information, path_words as Fields·path_words, values_of, field_bytes as Fields·field_bytes, divider_written};
+ghost use Rattle.unit.specs.Fields.{link_information as Fields·link_information, path_words as Fields·path_words, values_of, field_bytes, divider_written};
 
-use crate::fate::Status;
+use crate::fate::{Offence, Status};
 use crate::owner::Owner;
 use packets::Path;
 
@@ -78,22 +78,6 @@ pub(crate) fn row_of(address: u32) -> usize
     MISSING
 }
 
-// Whether one of the `count` fields from an address on is not in our table.
-pub(crate) fn any_missing(address: u32, count: usize) -> bool
-    requires { address + count ≤ 2 ^ 32 }
-    ensures { result ≡ some is_missing (named address count) }
-{
-    let mut i = 0;
-    while i < count {
-        let missing = row_of(address + i as u32) == MISSING;
-        if missing {
-            return true;
-        }
-        i += 1;
-    }
-    false
-}
-
 fn right_of(address: u32) -> Right
     ensures { result ≡ Fields·right_of address }
 {
@@ -107,27 +91,11 @@ fn offence_of(address: u32) -> Status
 {
     let right = right_of(address);
     match right {
-        Right::Missing => Status::NoSuchField,
-        Right::ReadOnly => Status::ReadOnlyField,
-        Right::Swapped => Status::PlainDeviceId,
-        Right::Written => Status::Success,
+        Right::Missing => Err(Offence::NoSuchField),
+        Right::ReadOnly => Err(Offence::ReadOnlyField),
+        Right::Swapped => Err(Offence::PlainDeviceId),
+        Right::Written => Ok(()),
     }
-}
-
-// Of a plain write to `count` fields, the lowest that offends decides.
-pub(crate) fn write_offence(address: u32, count: usize) -> Status
-    requires { address + count ≤ 2 ^ 32 }
-    ensures { result ≡ Fields·write_offence (named address count) }
-{
-    let mut i = 0;
-    while i < count {
-        let status = offence_of(address + i as u32);
-        if !status.is_success() {
-            return status;
-        }
-        i += 1;
-    }
-    Status::Success
 }
 
 // Only Device ID is swapped.
@@ -136,10 +104,10 @@ pub(crate) fn swap_offence(address: u32) -> Status
 {
     let right = right_of(address);
     match right {
-        Right::Missing => Status::NoSuchField,
-        Right::ReadOnly => Status::ReadOnlyField,
-        Right::Swapped => Status::Success,
-        Right::Written => Status::ReadOnlyField,
+        Right::Missing => Err(Offence::NoSuchField),
+        Right::ReadOnly => Err(Offence::ReadOnlyField),
+        Right::Swapped => Ok(()),
+        Right::Written => Err(Offence::ReadOnlyField),
     }
 }
 
@@ -196,20 +164,51 @@ pub(crate) fn values(fields: Fields, owner: Owner, last: u8, links: u8, link: u8
     ]
 }
 
-// The values of the `count` fields from an address on, at the start of what can hold sixteen.
-pub(crate) fn field_bytes(values: [u32; 16], address: u32, count: usize) -> [u8; 64]
-    requires { (count ≤ 16) × (address + count ≤ 2 ^ 32) }
-    ensures { take (4 * count) result ≡ Fields·field_bytes values (named address count) }
-{
-    let mut out = [0u8; 64];
-    let mut i = 0;
-    while i < count {
-        let row = row_of(address + i as u32);
-        let word = octets::bytes4(values[row]);
-        octets::copy_part(&word, 0, 4, &mut out, 4 * i);
-        i += 1;
+// The fields that a command names: `count` of them, from an address on. The last one has an address too.
+#[derive(Clone, Copy)]
+pub(crate) struct Named {
+    pub address: u32,
+    pub count: usize,
+    ghost last: { address + count ≤ 2 ^ 32 },
+}
+
+impl Named {
+    // Whether one of them is not in our table.
+    pub(crate) fn any_missing(self) -> bool
+        ensures { result ≡ some is_missing (named self.address self.count) }
+    {
+        for i in 0..self.count {
+            let missing = row_of(self.address + i as u32) == MISSING;
+            if missing {
+                return true;
+            }
+        }
+        false
     }
-    out
+
+    // Of a plain write to them, the lowest that offends decides.
+    pub(crate) fn write_offence(self) -> Status
+        ensures { result ≡ Fields·write_offence (named self.address self.count) }
+    {
+        for i in 0..self.count {
+            offence_of(self.address + i as u32)?;
+        }
+        Ok(())
+    }
+
+    // Their values, at the start of what can hold sixteen.
+    pub(crate) fn bytes(self, values: [u32; 16]) -> [u8; 64]
+        requires { self.count ≤ 16 }
+        ensures { take (4 * self.count) result ≡ field_bytes values (named self.address self.count) }
+    {
+        let mut out = [0u8; 64];
+        for i in 0..self.count {
+            let row = row_of(self.address + i as u32);
+            let word = octets::bytes4(values[row]);
+            octets::copy_part(&word, 0, 4, &mut out, 4 * i);
+        }
+        out
+    }
 }
 
 // A write to the divider: its low half is taken where it lies in the range.

@@ -10,4 +10,4 @@ returns-then-number-ne20 c = rw (← c.number.ensures, ne_eqb _ _ c.if-number-ne
 pub returns : goal.returns
 unfolding replied_to
 returns c =
-    rw (← c.number.ensures, eq-eqb _ _ c.if-number-ne20.false, ← c.byte.ensures) c.answer.ensures
+    rw (← c.number.ensures, eq-eqb _ _ c.if-number-ne20.false, ← c.status_byte-status.ensures) c.answer.ensures
