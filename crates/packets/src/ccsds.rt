@@ -56,7 +56,7 @@ pub fn read_ccsds(packet: &[u8], end: End, logical: u8) -> CcsdsReading
     if packet.len() < 4 {
         return CcsdsReading::NotTaken;
     }
-    let eop = end.is_eop();
+    let eop = end == End::Eop;
     let right = is_space_packet(&packet[4..]);
     if ((packet[0] == logical) | (packet[0] == 0xFE))
         & (packet[1] == 0x02)

@@ -13,14 +13,14 @@ use crate::path::Path;
 use crate::{header, path};
 
 // How a packet ended.
-#[derive(Clone, Copy)]
+#[derive(Clone, Copy, PartialEq, Eq)]
 pub enum End {
     Eop,
     Eep,
 }
 
 // Why a packet goes no further.
-#[derive(Clone, Copy)]
+#[derive(Clone, Copy, PartialEq, Eq)]
 pub enum Refusal {
     Incomplete,
     UnknownProtocol,
@@ -47,10 +47,7 @@ impl End {
     pub fn is_eop(self) -> bool
         ensures { result ≡ Reading·is_eop self }
     {
-        match self {
-            End::Eop => true,
-            End::Eep => false,
-        }
+        self == End::Eop
     }
 }
 

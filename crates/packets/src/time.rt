@@ -6,14 +6,14 @@ ghost use Rattle.packets.specs.Time.{time_number_of, when_of as Time·when_of, o
 use crate::reading::End;
 
 // When the time that a packet brings is to be taken: at the wrap of the Time-Code, or at once.
-#[derive(Clone, Copy)]
+#[derive(Clone, Copy, PartialEq, Eq)]
 pub enum When {
     AtWrap,
     AtOnce,
 }
 
 // What a time packet says: the epoch code (9F or AF), when to take the time, and the time: seconds in 32 bits, their fraction in 24.
-#[derive(Clone, Copy)]
+#[derive(Clone, Copy, PartialEq, Eq)]
 pub struct Time {
     pub epoch: u8,
     pub when: When,
@@ -73,7 +73,7 @@ fn is_time_packet(p: &[u8], end: End, logical: u8, number: u8) -> bool
     if p.len() != 12 + seconds + added_fraction(octet) {
         return false;
     }
-    let eop = end.is_eop();
+    let eop = end == End::Eop;
     let zeros = worth_nothing(&p[4..4 + seconds]);
     let sum = octets::crc_of(p);
     eop & ((p[0] == logical) | (p[0] == 0xFE))
