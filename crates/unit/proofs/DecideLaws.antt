@@ -1,5 +1,5 @@
 -- Laws of decisions: what a command that got past the checks has shown.
-use Rattle.std.proofs.Common.{◌≡◌, ℕ, ◌+◌, ◌-◌, ◌/◌, ◌%◌, ◌^◌, ◌≤◌, min, Bool, true, false, cond, not, ◌&&◌, ◌||◌, eqb, ltb, leb, ◌⊎◌, List, [], ◌∷◌, length, drop, sym, refl, ap, ◌∙◌, inl, inr, ⊎_elim, le_of_eq, lt_of_not-le, arith, length-drop, take_all, ltb-false, lt-ltb, eq-eqb, ne_eqb, eqb-true, leb-false, leb-true, Ok, Err}
+use Rattle.std.proofs.Common.{◌≡◌, ℕ, ◌+◌, ◌-◌, ◌/◌, ◌%◌, ◌^◌, ◌≤◌, min, Bool, true, false, cond, not, ◌&&◌, ◌||◌, eqb, ltb, leb, ◌⊎◌, List, [], ◌∷◌, length, drop, sym, refl, ap, ◌∙◌, inl, inr, ⊎_elim, le_of_eq, lt_of_not-le, arith, length-drop, take_all, ltb-false, lt-ltb, eq-eqb, ne_eqb, eqb-true, leb-false, leb-true, Option, Some, None, Ok, Err}
 use mathlib.Core.Bool.{false≢true}
 use borrow.Author.Tests.{not-false}
 use lib.Arith.{lt_of_le-ne}
@@ -28,7 +28,7 @@ use Rattle.unit.specs.declared.decide.Plan.{Plan}
 use Rattle.unit.specs.declared.fate.Offence.TheVariants.{UnusedCode, WrongKey, DataCrc, EarlyEop, TooMuchData, EndedByEep, VerifyOverrun}
 use Rattle.unit.specs.declared.fate.Offence.TheVariants.{NotAuthorised, RmwLength, WrongAddress, NotOwner, NoSuchField}
 use Rattle.unit.specs.declared.fields.Right.{Right}
-use Rattle.unit.specs.declared.fields.Right.TheVariants.{Missing, ReadOnly, Swapped, Written}
+use Rattle.unit.specs.declared.fields.Right.TheVariants.{ReadOnly, Swapped, Written}
 use Rattle.unit.specs.declared.windows.Windows.{Windows}
 use Rattle.unit.specs.declared.owner.Owner.{Owner}
 use Rattle.unit.specs.declared.unit.Unit.{Unit as TheUnit}
@@ -179,17 +179,17 @@ one_or_other : (t : Bool) (s r : Status) → Header's s → Header's r → Heade
 one_or_other true s r x y = x
 one_or_other false s r x y = y
 
-write_offence_law : (right : Right) → Header's (offence_of right)
-write_offence_law Missing = refl
-write_offence_law ReadOnly = refl
-write_offence_law Swapped = refl
-write_offence_law Written = refl
+write_offence_law : (right : Option Right) → Header's (offence_of right)
+write_offence_law None = refl
+write_offence_law (Some ReadOnly) = refl
+write_offence_law (Some Swapped) = refl
+write_offence_law (Some Written) = refl
 
-swap_offence_law : (right : Right) → Header's (swap_offence right)
-swap_offence_law Missing = refl
-swap_offence_law ReadOnly = refl
-swap_offence_law Swapped = refl
-swap_offence_law Written = refl
+swap_offence_law : (right : Option Right) → Header's (swap_offence right)
+swap_offence_law None = refl
+swap_offence_law (Some ReadOnly) = refl
+swap_offence_law (Some Swapped) = refl
+swap_offence_law (Some Written) = refl
 
 write_offences : (l : List ℕ) → Header's (write_offence l)
 write_offences [] = refl

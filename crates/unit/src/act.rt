@@ -213,16 +213,17 @@ pub(crate) fn change(unit: Unit, action: Action, initiator: u8, path: Path, link
 fn write_field(unit: Unit, address: u32, word: u32) -> Unit
     ensures { result ≡ field_written unit address word }
 {
-    let row = fields::row_of(address);
-    if row == fields::TIME_CODE_COUNTER {
-        let clock = clock::write_time_code(unit.clock, word);
-        return Unit { clock, ..unit };
+    match fields::row_of(address) {
+        Some(fields::TIME_CODE_COUNTER) => {
+            let clock = clock::write_time_code(unit.clock, word);
+            Unit { clock, ..unit }
+        }
+        Some(fields::DIVIDER) => {
+            let fields = fields::write_divider(unit.fields, word);
+            Unit { fields, ..unit }
+        }
+        _ => unit,
     }
-    if row == fields::DIVIDER {
-        let fields = fields::write_divider(unit.fields, word);
-        return Unit { fields, ..unit };
-    }
-    unit
 }
 
 pub(crate) fn count(unit: Unit, fate: Fate) -> Unit

@@ -1,7 +1,7 @@
 // The fields of plug-and-play (document 01, 'Fields'; 000, 5.3.3 and 5.3.4).
 ghost use Rattle.std.specs.Prelude.{◌≡◌, ◌+◌, ◌*◌, ◌^◌, ◌≤◌, take};
 ghost use Rattle.unit.specs.Some.{some};
-ghost use Rattle.unit.specs.Fields.{named, row_of as Fields·row_of, is_missing, right_of as Fields·right_of, offence_of as Fields·offence_of, write_offence as Fields·write_offence, swap_offence as Fields·swap_offence};
+ghost use Rattle.unit.specs.Fields.{named, row_in_table, is_missing, right_of as Fields·right_of, offence_of as Fields·offence_of, write_offence as Fields·write_offence, swap_offence as Fields·swap_offence};
 ghost use Rattle.unit.specs.Fields.{link_information as Fields·link_information, path_words as Fields·path_words, values_of, field_bytes, divider_written};
 
 use crate::fate::{Offence, Status};
@@ -26,18 +26,17 @@ pub struct Fields {
     pub divider: u32,
 }
 
-// What may be done with a field besides reading it; nothing at all where it is missing from our table.
+// What may be done with a field of our table besides reading it.
 #[derive(Clone, Copy)]
 pub(crate) enum Right {
-    Missing,
     ReadOnly,
     Swapped,
     Written,
 }
 
 // The right to each field of our table, the companion of the table of command codes: protocol 0, set 0, fields 0 to 10; then protocol 1, set
-// 0, fields 0 to 3. The last row is for every field that is not there.
-const RIGHTS: [Right; 16] = [
+// 0, fields 0 to 3.
+const RIGHTS: [Right; 15] = [
     Right::ReadOnly,
     Right::ReadOnly,
     Right::ReadOnly,
@@ -53,7 +52,6 @@ const RIGHTS: [Right; 16] = [
     Right::ReadOnly,
     Right::ReadOnly,
     Right::Written,
-    Right::Missing,
 ];
 
 // Rows of our table that are named.
@@ -61,41 +59,40 @@ pub(crate) const TIME_CODE_COUNTER: usize = 11;
 
 pub(crate) const DIVIDER: usize = 14;
 
+// Kept: `values_of` has a row behind the table, for what a field that is not there would read.
 const MISSING: usize = 15;
 
-// The row of a field in our table, by its address: application, protocol and set are what is above the lowest 14 bits.
-pub(crate) fn row_of(address: u32) -> usize
-    ensures answers { result ≡ Fields·row_of address }
-    ensures small { result ≤ 15 }
+// The row of a field, by its address, if it is in our table: application, protocol and set are what is above the lowest 14 bits.
+pub(crate) fn row_of(address: u32) -> Option<usize>
+    ensures { result ≡ row_in_table address }
 {
     let set = address / 0x4000;
     let field = (address % 0x4000) as usize;
     if (set == 0) & (field < 11) {
-        return field;
+        return Some(field);
     }
     if (set == 0x20) & (field < 4) {
-        return 11 + field;
+        return Some(11 + field);
     }
-    MISSING
+    None
 }
 
-fn right_of(address: u32) -> Right
+fn right_of(address: u32) -> Option<Right>
     ensures { result ≡ Fields·right_of address }
 {
-    let row = row_of(address);
-    RIGHTS[row]
+    let row = row_of(address)?;
+    Some(RIGHTS[row])
 }
 
 // What a plain write to a field offends.
 fn offence_of(address: u32) -> Status
     ensures { result ≡ Fields·offence_of (Fields·right_of address) }
 {
-    let right = right_of(address);
-    match right {
-        Right::Missing => Err(Offence::NoSuchField),
-        Right::ReadOnly => Err(Offence::ReadOnlyField),
-        Right::Swapped => Err(Offence::PlainDeviceId),
-        Right::Written => Ok(()),
+    match right_of(address) {
+        None => Err(Offence::NoSuchField),
+        Some(Right::ReadOnly) => Err(Offence::ReadOnlyField),
+        Some(Right::Swapped) => Err(Offence::PlainDeviceId),
+        Some(Right::Written) => Ok(()),
     }
 }
 
@@ -103,12 +100,11 @@ fn offence_of(address: u32) -> Status
 pub(crate) fn swap_offence(address: u32) -> Status
     ensures { result ≡ Fields·swap_offence (Fields·right_of address) }
 {
-    let right = right_of(address);
-    match right {
-        Right::Missing => Err(Offence::NoSuchField),
-        Right::ReadOnly => Err(Offence::ReadOnlyField),
-        Right::Swapped => Ok(()),
-        Right::Written => Err(Offence::ReadOnlyField),
+    match right_of(address) {
+        None => Err(Offence::NoSuchField),
+        Some(Right::ReadOnly) => Err(Offence::ReadOnlyField),
+        Some(Right::Swapped) => Ok(()),
+        Some(Right::Written) => Err(Offence::ReadOnlyField),
     }
 }
 
@@ -179,7 +175,7 @@ impl Named {
         ensures { result ≡ some is_missing (named self.address self.count) }
     {
         for i in 0..self.count {
-            let missing = row_of(self.address + i as u32) == MISSING;
+            let missing = row_of(self.address + i as u32) == None;
             if missing {
                 return true;
             }
@@ -204,7 +200,7 @@ impl Named {
     {
         let mut out = [0u8; 64];
         for i in 0..self.count {
-            let row = row_of(self.address + i as u32);
+            let row = row_of(self.address + i as u32).unwrap_or(MISSING);
             let word: [u8; 4] = values[row].to_octets();
             octets::copy_part(&word, 0, 4, &mut out, 4 * i);
         }
