@@ -1,6 +1,8 @@
 -- Demand 1 leaves no room: 1, 2 and 3 are given exactly where they are due, each other row says how the packet was read and which status it is due, and with that
 -- all that it leaves. So the rows together are a function, `due`; what meets them is its value; and ours meets them too.
 use Rattle.std.proofs.Common.{Ok, Err}
+use Rattle.packets.specs.declared.time.Time.{Time as TheTime}
+use Rattle.std.specs.Prelude.{Option, Some, None}
 use mathlib.Core.Path.{◌≡◌, refl, sym, ◌∙◌, ap}
 use mathlib.Core.Bool.{Bool, true, false, cond, false≢true, not-eq-not}
 use mathlib.Core.Logic.{inl, inr}
@@ -18,8 +20,6 @@ use Rattle.packets.specs.Time.{read_time}
 use Rattle.packets.specs.declared.header.Header.{Header}
 use Rattle.packets.specs.declared.reading.Reading.{Reading}
 use Rattle.packets.specs.declared.reading.Reading.TheVariants.{Refused, Time, Command}
-use Rattle.packets.specs.declared.time.TimeReading.{TimeReading}
-use Rattle.packets.specs.declared.time.TimeReading.TheVariants.{ThrownAway, Taken}
 use Rattle.unit.specs.Fate.{Status, is_success, fate_number}
 use Rattle.unit.specs.Clock.{after_time, after_code, after_ticks}
 use Rattle.unit.specs.Usable.{usable}
@@ -98,9 +98,9 @@ module _ (u : TheUnit) (p : Arrived) (lent : Lent) where
   silent_due h (Err offence) = ending (NotObeyed offence) (counted_as 17 u) (refused_on h (Err offence) p lent) lent.reply 0
 
   -- a time packet
-  abbrev time_due : TimeReading → Outcome
-  time_due ThrownAway = ending TimeThrownAway (counted_as 16 u) lent.memory lent.reply 0
-  time_due (Taken t) = ending TimeTaken (counted_as 19 (with_clock u (after_time u.clock t))) lent.memory lent.reply 0
+  abbrev time_due : Option TheTime → Outcome
+  time_due None = ending TimeThrownAway (counted_as 16 u) lent.memory lent.reply 0
+  time_due (Some t) = ending TimeTaken (counted_as 19 (with_clock u (after_time u.clock t))) lent.memory lent.reply 0
 
   -- past 1 and 2, by its reading
   abbrev due_as : Reading → Outcome

@@ -1,4 +1,5 @@
 -- The newer preamble: what is taken and what it shows, and the receiver of before.
+use Rattle.std.specs.Prelude.{Some, None}
 use mathlib.Core.Path.{◌≡◌, refl, sym, ap, ◌∙◌}
 use mathlib.Core.Bool.{Bool, true, false, cond, ◌&&◌, and-true, and-false}
 use mathlib.Core.Logic.{◌⊎◌, inl, inr, ⊎_elim, ◌≢◌}
@@ -22,7 +23,6 @@ use Rattle.packets.specs.declared.reading.Reading.TheVariants.{Refused, Time, Co
 use Rattle.packets.specs.declared.time.Time.{Time as TheTime}
 use Rattle.packets.specs.declared.time.When.{When}
 use Rattle.packets.specs.declared.time.When.TheVariants.{AtWrap, AtOnce}
-use Rattle.packets.specs.declared.time.TimeReading.TheVariants.{ThrownAway, Taken}
 use Rattle.packets.proofs.ReadingLaws.{packet_time, time_bare}
 use Rattle.packets.proofs.BareLaws.{bare_other}
 use Rattle.packets.proofs.TimeLaws.{Passed, taken_passed, taken_below, thrown_away, when_told}
@@ -75,7 +75,7 @@ reader_alone u p lent = ours_is u p lent
 
 module _ (p : List ℕ) (end : End) (logical n : ℕ) where
   -- another second octet than 00 and 01 was no time packet's
-  was_other : (get_or p 3 0 ≡ 0 → ⊥) → (get_or p 3 0 ≡ 1 → ⊥) → was_read p end logical n ≡ ThrownAway
+  was_other : (get_or p 3 0 ≡ 0 → ⊥) → (get_or p 3 0 ≡ 1 → ⊥) → was_read p end logical n ≡ None
   was_other x y = rw (ne_eqb (get_or p 3 0) 0 x, ne_eqb (get_or p 3 0) 1 y) (simp and-false)
 
   twelve : Digits 256 p → length p ≡ 12 → read_time p end logical n ≡ was_read p end logical n
@@ -92,7 +92,7 @@ module _ (p : List ℕ) (end : End) (logical n : ℕ) where
       go (no x) (no y) = thrown_away p end logical n (other x y) ∙ sym (was_other x y)
 
   -- nor was one of another length
-  was_longer : (length p ≡ 12 → ⊥) → was_read p end logical n ≡ ThrownAway
+  was_longer : (length p ≡ 12 → ⊥) → was_read p end logical n ≡ None
   was_longer x = rw (ne_eqb (length p) 12 x)
 
 -- where both read a time packet alike, the two terminals do the same
@@ -110,12 +110,12 @@ module _ (u : TheUnit) (p : Arrived) (lent : Lent) where
   took_twelve : (read_of u p).reading ≡ Time → number_got (before.packet u p lent) ≡ 19 → (length p.packet ≡ 12 → ⊥) → ⊥
   unfolding take_packet judged
   took_twelve e taken other =
-      let away : was_read (as_read p).packet p.end u.logical u.number ≡ ThrownAway =
+      let away : was_read (as_read p).packet p.end u.logical u.number ≡ None =
       rw (time_bare p.packet u.number e) (was_longer p.packet p.end u.logical u.number other) in
       go (usable u (length lent.memory)) (is_link u p.link) refl refl (rw (e, away) at taken)
     where
       go : (a b : Bool) → usable u (length lent.memory) ≡ a → is_link u p.link ≡ b
-          → number_got (cond (a && b) (done_by (time_ruling ThrownAway) (path_in u p) u (as_read p).packet p.link lent) (take_packet u p lent)) ≡ 19 → ⊥
+          → number_got (cond (a && b) (done_by (time_ruling None) (path_in u p) u (as_read p).packet p.link lent) (take_packet u p lent)) ≡ 19 → ⊥
       go true true works there t = omega (arith, t)
       go true false works there t = omega (arith, rw (works, there) at t)
       go false b works there t = omega (arith, rw works at t)
@@ -193,13 +193,13 @@ made_is_taken u p lent time zeros cut works there (address, addressed, known, sm
     ⊎_elim (λ f. omega (arith, f, three)) (λ f. omega (arith, f, three)) known) in
     let read : read_packet p.packet u.number ≡ time_packet =
     packet_time p.packet u.number (omega (arith, ap length bytes)) fits.0 fits.1 (ap (λ (b : List ℕ). get_or b 1 0) bytes) in
-    let taken : read_time p.packet p.end u.logical u.number ≡ Taken time =
+    let taken : read_time p.packet p.end u.logical u.number ≡ Some time =
     rw (bytes, eop) (time_read address u.number time zeros cut (omega (arith, few)) (omega (arith, fewer)) u.logical addressed known small) in
     rw (bare_is, works, there, read, taken) (refl, ap (λ (c : Clock). counted_as 19 (with_clock u c)) (clock_is u.clock time), refl, (refl, refl))
 
 -- a packet that gets 19 was taken, as it arrived
 module _ (u : TheUnit) (p : Arrived) (lent : Lent) (Q : Outcome → Type 0) where
-  nineteen : ((t : TheTime) → read_time p.packet p.end u.logical u.number ≡ Taken t
+  nineteen : ((t : TheTime) → read_time p.packet p.end u.logical u.number ≡ Some t
       → Q (leaving (without_reply TimeTaken (counted_unit TimeTaken (with_clock u (after_time u.clock t)))) lent))
       → number_got (take_packet u p lent) ≡ 19 → Q (take_packet u p lent)
   nineteen taken =

@@ -1,4 +1,6 @@
 -- The zero in front of plug-and-play packets: taken off where it is, once, and nothing else is.
+use Rattle.packets.specs.declared.time.Time.{Time as TheTime}
+use Rattle.std.specs.Prelude.{Option, Some, None}
 use mathlib.Core.Path.{◌≡◌, refl, sym, ◌∙◌, ap}
 use mathlib.Core.Bool.{true, false, false≢true}
 use mathlib.Core.Logic.{◌⊎◌, inl, inr, ⊎_elim, ◌≢◌}
@@ -12,8 +14,6 @@ use Rattle.packets.specs.declared.header.Header.{Header}
 use Rattle.packets.specs.declared.path.Path.{Path}
 use Rattle.packets.specs.declared.reading.End.{End}
 use Rattle.packets.specs.declared.reading.Refusal.TheVariants.{UnknownProtocol}
-use Rattle.packets.specs.declared.time.TimeReading.{TimeReading}
-use Rattle.packets.specs.declared.time.TimeReading.TheVariants.{ThrownAway, Taken}
 use Rattle.packets.proofs.BareLaws.{bare_lacks, bare_zero, bare_other, bare_once}
 use Rattle.packets.proofs.TimeLaws.{taken_addressed, thrown_away}
 use Rattle.packets.proofs.ReadingLaws.{target_read, protocol_extended, packet_protocol, packet_time, packet_unknown}
@@ -62,10 +62,10 @@ none_with_zero c rest rmap begins = omega (arith, sym rmap ∙ ap (λ (b : List 
 -- ---- by the second byte
 
 -- a time packet is thrown away or taken
-time_either : (r : TimeReading) (path : Path) (u : TheUnit) (bytes : List ℕ) (link : ℕ) (lent : Lent)
+time_either : (r : Option TheTime) (path : Path) (u : TheUnit) (bytes : List ℕ) (link : ℕ) (lent : Lent)
     → (fate_number (done_by (time_ruling r) path u bytes link lent).answer.fate ≡ 16) ⊎ (fate_number (done_by (time_ruling r) path u bytes link lent).answer.fate ≡ 19)
-time_either ThrownAway path u bytes link lent = inl refl
-time_either (Taken t) path u bytes link lent = inr refl
+time_either None path u bytes link lent = inl refl
+time_either (Some t) path u bytes link lent = inr refl
 
 pub by_second_byte : BySecondByte ours
 unfolding judged
@@ -123,7 +123,7 @@ module _ (rest : List ℕ) where
   was_unknown number e = packet_unknown zeroed number (omega arith) (λ z. omega (arith, z)) (λ z. omega (arith, z)) (λ z. omega (arith, z)) (λ f. e (sym f))
 
   -- and 03 is no epoch code
-  was_thrown : (end : End) (logical number : ℕ) → read_time zeroed end logical number ≡ ThrownAway
+  was_thrown : (end : End) (logical number : ℕ) → read_time zeroed end logical number ≡ None
   was_thrown end logical number = thrown_away zeroed end logical number (λ passed. ⊎_elim (λ e. omega (arith, e)) (λ e. omega (arith, e)) passed.epoch)
 
 pub was_refused : WasRefused

@@ -13,8 +13,6 @@ use Rattle.packets.specs.declared.reading.Reading.TheVariants.{Refused, Time, Co
 use Rattle.packets.specs.declared.reading.End.{End}
 use Rattle.packets.specs.declared.time.When.TheVariants.{AtWrap, AtOnce}
 use Rattle.packets.specs.declared.time.Time.{Time as TheTime}
-use Rattle.packets.specs.declared.time.TimeReading.{TimeReading}
-use Rattle.packets.specs.declared.time.TimeReading.TheVariants.{ThrownAway, Taken}
 use Rattle.unit.specs.Fate.{fate_number}
 use Rattle.unit.specs.Usable.{usable}
 use Rattle.unit.specs.Counters.{total}
@@ -174,9 +172,9 @@ abbrev pub time_from : ℕ → List ℕ → TheTime
 time_from at p = record { epoch = get_or p 2 0; when = cond (eqb (get_or p 3 0 % 2) 1) AtOnce AtWrap; value = number (part at 7 p) }
 
 -- It takes time packets by the newer preamble, but rounds to the nearest tick instead of cutting off: by the first octet that is cut off.
-abbrev pub rounded : List ℕ → TimeReading → TimeReading
-rounded p ThrownAway = ThrownAway
-rounded p (Taken t) = Taken (record {
+abbrev pub rounded : List ℕ → Option TheTime → Option TheTime
+rounded p None = None
+rounded p (Some t) = Some (record {
   epoch = t.epoch;
   when = t.when;
   value = t.value + get_or (part (11 + of_seconds p) (of_fraction p) p) 0 0 / 0x80;
@@ -194,12 +192,12 @@ sound_but p end logical timeNumber =
 -- It does not look at the octets of seconds that were added, and so drops what they hold.
 abbrev pub drops_seconds : Terminal
 drops_seconds = reading (λ p end logical timeNumber.
-    cond (eqb (length p) (12 + of_seconds p + of_fraction p) && sound_but p end logical timeNumber) (Taken (time_from (4 + of_seconds p) p)) ThrownAway)
+    cond (eqb (length p) (12 + of_seconds p + of_fraction p) && sound_but p end logical timeNumber) (Some (time_from (4 + of_seconds p) p)) None)
 
 -- It takes twelve bytes, whatever their second octet adds, as if nothing were added.
 abbrev pub counts_nothing : Terminal
 counts_nothing = reading (λ p end logical timeNumber.
-    cond (eqb (length p) 12 && sound_but p end logical timeNumber) (Taken (time_from 4 p)) (read_time p end logical timeNumber))
+    cond (eqb (length p) 12 && sound_but p end logical timeNumber) (Some (time_from 4 p)) (read_time p end logical timeNumber))
 
 -- ---- which demand shuts out which
 

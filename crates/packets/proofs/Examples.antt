@@ -1,5 +1,7 @@
 -- Worked examples, computed by the definitions: a definition that no longer says what they say is refused here. Those of the papers
 -- name their place; the others were worked out by hand.
+use Rattle.packets.specs.declared.time.Time.{Time as TheTime}
+use Rattle.std.specs.Prelude.{Option, Some, None}
 use mathlib.Core.Path.{◌≡◌, refl}
 use mathlib.Core.Bool.{Bool, true, false, cond}
 use mathlib.Core.List.{List, [], ◌∷◌, ◌++◌, map}
@@ -22,8 +24,6 @@ use Rattle.packets.specs.declared.reading.Reading.TheVariants.{Command}
 use Rattle.packets.specs.declared.reading.Refusal.TheVariants.{Incomplete, UnknownProtocol, ExtendedProtocol, Reply, HeaderCrc}
 use Rattle.packets.specs.declared.reading.End.TheVariants.{Eop, Eep}
 use Rattle.packets.specs.declared.time.When.TheVariants.{AtWrap, AtOnce}
-use Rattle.packets.specs.declared.time.TimeReading.{TimeReading}
-use Rattle.packets.specs.declared.time.TimeReading.TheVariants.{ThrownAway, Taken}
 
 -- ---- document 01, 'Cases by hand': 7C a verified write, 4C a read, 5C an RMW, all incrementing with a reply
 
@@ -104,7 +104,7 @@ told_apart = refl
 numbers : map number_of (Incomplete ∷ UnknownProtocol ∷ ExtendedProtocol ∷ Reply ∷ HeaderCrc ∷ []) ≡ 11 ∷ 12 ∷ 13 ∷ 14 ∷ 15 ∷ []
 numbers = refl
 
-time_numbers : map time_number_of (ThrownAway ∷ Taken (record { epoch = 0x9F; when = AtOnce; value = 0 }) ∷ []) ≡ 16 ∷ 19 ∷ []
+time_numbers : map time_number_of (None ∷ Some (record { epoch = 0x9F; when = AtOnce; value = 0 }) ∷ []) ≡ 16 ∷ 19 ∷ []
 time_numbers = refl
 
 -- ---- document 01, 'Time': the last bit of byte 3 is 0 at the wrap, 1 at once
@@ -372,16 +372,16 @@ readings_in_order = refl
 -- ---- time packets: one at once, one that waits, and the first ended by EEP (their CRCs were worked out by polynomial division, apart)
 
 time_at_once : read_time (0xFE ∷ 0xF0 ∷ 0x9F ∷ 0x01 ∷ 0x00 ∷ 0x00 ∷ 0x00 ∷ 0x05 ∷ 0x80 ∷ 0x00 ∷ 0x00 ∷ 0xB0 ∷ []) Eop 0x43 0xF0
-    ≡ Taken (record { epoch = 0x9F; when = AtOnce; value = 0x00000005800000 })
+    ≡ Some (record { epoch = 0x9F; when = AtOnce; value = 0x00000005800000 })
 unfolding read_time crc mirrored bits remainder message modulo
 time_at_once = refl
 
 time_at_wrap : read_time (0x43 ∷ 0xF0 ∷ 0xAF ∷ 0x00 ∷ 0x01 ∷ 0x02 ∷ 0x03 ∷ 0x04 ∷ 0x05 ∷ 0x06 ∷ 0x07 ∷ 0x4A ∷ []) Eop 0x43 0xF0
-    ≡ Taken (record { epoch = 0xAF; when = AtWrap; value = 0x01020304050607 })
+    ≡ Some (record { epoch = 0xAF; when = AtWrap; value = 0x01020304050607 })
 unfolding read_time crc mirrored bits remainder message modulo
 time_at_wrap = refl
 
-time_eep : read_time (0xFE ∷ 0xF0 ∷ 0x9F ∷ 0x01 ∷ 0x00 ∷ 0x00 ∷ 0x00 ∷ 0x05 ∷ 0x80 ∷ 0x00 ∷ 0x00 ∷ 0xB0 ∷ []) Eep 0x43 0xF0 ≡ ThrownAway
+time_eep : read_time (0xFE ∷ 0xF0 ∷ 0x9F ∷ 0x01 ∷ 0x00 ∷ 0x00 ∷ 0x00 ∷ 0x05 ∷ 0x80 ∷ 0x00 ∷ 0x00 ∷ 0xB0 ∷ []) Eep 0x43 0xF0 ≡ None
 unfolding read_time crc mirrored bits remainder message modulo
 time_eep = refl
 
@@ -412,7 +412,7 @@ time_thrown_away :
     ∷ (0xFE ∷ 0xF0 ∷ 0x9F ∷ 0x01 ∷ 0x00 ∷ 0x00 ∷ 0x00 ∷ 0x05 ∷ 0x80 ∷ 0x00 ∷ 0x00 ∷ 0x30 ∷ [])
     ∷ []
     )
-    ≡ replicate 16 ThrownAway
+    ≡ replicate 16 None
 unfolding read_time crc mirrored bits remainder message modulo
 time_thrown_away = refl
 
@@ -423,8 +423,8 @@ time_taken :
     ∷ (0x43 ∷ 0xF1 ∷ 0xAF ∷ 0x01 ∷ 0x00 ∷ 0x00 ∷ 0x00 ∷ 0x05 ∷ 0x80 ∷ 0x00 ∷ 0x00 ∷ 0xD1 ∷ [])
     ∷ []
     )
-    ≡ Taken (record { epoch = 0x9F; when = AtWrap; value = 0x00000005800000 })
-    ∷ Taken (record { epoch = 0xAF; when = AtOnce; value = 0x00000005800000 })
+    ≡ Some (record { epoch = 0x9F; when = AtWrap; value = 0x00000005800000 })
+    ∷ Some (record { epoch = 0xAF; when = AtOnce; value = 0x00000005800000 })
     ∷ []
 unfolding read_time crc mirrored bits remainder message modulo
 time_taken = refl
@@ -452,18 +452,18 @@ preamble_taken :
     ∷ (0xFE ∷ 0xF0 ∷ 0x9F ∷ 0x1D ∷ 0x00 ∷ 0x00 ∷ 0x00 ∷ 0x05 ∷ 0x80 ∷ 0x00 ∷ 0x00 ∷ 0xFF ∷ 0xFF ∷ 0xFF ∷ 0xFF ∷ 0xFF ∷ 0xFF ∷ 0xFF ∷ 0x3A ∷ [])
     ∷ []
     )
-    ≡ Taken (record { epoch = 0x9F; when = AtOnce; value = 0x00000005800000 })
-    ∷ Taken (record { epoch = 0xAF; when = AtWrap; value = 0x00000005800000 })
-    ∷ Taken (record { epoch = 0x9F; when = AtWrap; value = 0x00000005800000 })
-    ∷ Taken (record { epoch = 0x9F; when = AtWrap; value = 0x000005800000FF })
-    ∷ Taken (record { epoch = 0x9F; when = AtOnce; value = 0x00000005800000 })
-    ∷ Taken (record { epoch = 0xAF; when = AtOnce; value = 0xFFFFFFFFFFFFFF })
-    ∷ Taken (record { epoch = 0x9F; when = AtWrap; value = 0x01020304050607 })
-    ∷ Taken (record { epoch = 0x9F; when = AtOnce; value = 0x00000005800000 })
-    ∷ Taken (record { epoch = 0x9F; when = AtWrap; value = 0x00000005800000 })
-    ∷ Taken (record { epoch = 0x9F; when = AtOnce; value = 0x00000005800000 })
-    ∷ Taken (record { epoch = 0x9F; when = AtWrap; value = 0x00000005800000 })
-    ∷ Taken (record { epoch = 0x9F; when = AtOnce; value = 0x00000005800000 })
+    ≡ Some (record { epoch = 0x9F; when = AtOnce; value = 0x00000005800000 })
+    ∷ Some (record { epoch = 0xAF; when = AtWrap; value = 0x00000005800000 })
+    ∷ Some (record { epoch = 0x9F; when = AtWrap; value = 0x00000005800000 })
+    ∷ Some (record { epoch = 0x9F; when = AtWrap; value = 0x000005800000FF })
+    ∷ Some (record { epoch = 0x9F; when = AtOnce; value = 0x00000005800000 })
+    ∷ Some (record { epoch = 0xAF; when = AtOnce; value = 0xFFFFFFFFFFFFFF })
+    ∷ Some (record { epoch = 0x9F; when = AtWrap; value = 0x01020304050607 })
+    ∷ Some (record { epoch = 0x9F; when = AtOnce; value = 0x00000005800000 })
+    ∷ Some (record { epoch = 0x9F; when = AtWrap; value = 0x00000005800000 })
+    ∷ Some (record { epoch = 0x9F; when = AtOnce; value = 0x00000005800000 })
+    ∷ Some (record { epoch = 0x9F; when = AtWrap; value = 0x00000005800000 })
+    ∷ Some (record { epoch = 0x9F; when = AtOnce; value = 0x00000005800000 })
     ∷ []
 unfolding read_time crc mirrored bits remainder message modulo
 preamble_taken = refl
@@ -498,12 +498,12 @@ preamble_thrown_away :
     ∷ (0xFE ∷ 0xF0 ∷ 0x9F ∷ 0x05 ∷ 0x00 ∷ 0x00 ∷ 0x00 ∷ 0x05 ∷ 0x80 ∷ 0x00 ∷ 0x00 ∷ 0xFE ∷ 0xBB ∷ [])
     ∷ []
     )
-    ≡ replicate 18 ThrownAway
+    ≡ replicate 18 None
 unfolding read_time crc mirrored bits remainder message modulo
 preamble_thrown_away = refl
 
 -- and EEP
-preamble_eep : read_time (0xFE ∷ 0xF0 ∷ 0x9F ∷ 0x05 ∷ 0x00 ∷ 0x00 ∷ 0x00 ∷ 0x05 ∷ 0x80 ∷ 0x00 ∷ 0x00 ∷ 0xFF ∷ 0xBB ∷ []) Eep 0x43 0xF0 ≡ ThrownAway
+preamble_eep : read_time (0xFE ∷ 0xF0 ∷ 0x9F ∷ 0x05 ∷ 0x00 ∷ 0x00 ∷ 0x00 ∷ 0x05 ∷ 0x80 ∷ 0x00 ∷ 0x00 ∷ 0xFF ∷ 0xBB ∷ []) Eep 0x43 0xF0 ≡ None
 unfolding read_time crc mirrored bits remainder message modulo
 preamble_eep = refl
 
@@ -518,10 +518,10 @@ octet_sent o =
     with_crc ((0xFE ∷ 0xF0 ∷ epoch_sent o ∷ o ∷ []) ++ replicate (o / 32 % 4) 0x00 ++ (0x01 ∷ 0x02 ∷ 0x03 ∷ 0x04 ∷ 0x05 ∷ 0x06 ∷ 0x07 ∷ []) ++ replicate (o / 4 % 8) 0xFF)
 
 -- it is taken exactly if 02 is not in it, and at once exactly if it is odd
-abbrev octet_told : ℕ → TimeReading
+abbrev octet_told : ℕ → Option TheTime
 octet_told o =
     cond (eqb (o / 2 % 2) 0)
-    (Taken (record { epoch = epoch_sent o; when = cond (eqb (o % 2) 1) AtOnce AtWrap; value = 0x01020304050607 })) ThrownAway
+    (Some (record { epoch = epoch_sent o; when = cond (eqb (o % 2) 1) AtOnce AtWrap; value = 0x01020304050607 })) None
 
 octets_told : tabulate 0 128 (λ o. read_time (octet_sent o) Eop 0x43 0xF0) ≡ tabulate 0 128 octet_told
 unfolding read_time crc mirrored bits remainder message modulo

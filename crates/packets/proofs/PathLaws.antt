@@ -1,13 +1,14 @@
 -- Laws of paths: what becomes of a reply address, that its twelve bytes and its count keep its path, and when two kept paths are one.
 use mathlib.Core.Path.{◌≡◌, refl, sym, ap, ◌∙◌}
-use mathlib.Core.Bool.{true, false, false≢true}
+use mathlib.Core.Bool.{Bool, true, false, ◌&&◌, false≢true}
 use mathlib.Core.List.{List, [], ◌∷◌, ◌++◌, map, append-nil}
 use Prim.Native.Nat.{ℕ, zero, suc, ◌+◌, ◌-◌, ◌<◌, ◌≤◌}
 use native.Mathlib.Omega.{arith}
 use native.Mathlib.Numerals.{add-one}
-use borrow.Author.Tests.{le-leb, eq-eqb, ne_eqb, eqb-true}
+use borrow.Author.Tests.{le-leb, eq-eqb, eqb-true}
 use lib.Dec.{eqb}
-use lib.ListN.{length, get_or, take, drop, replicate, length-replicate, replicate-append-replicate, length-drop, drop_of_length-le}
+use lib.Pointwise.{pointwise}
+use lib.ListN.{length, get_or, take, drop, replicate, length-replicate, replicate-append-replicate, length-drop}
 use lib.Seq.{drop-cons, drop_at, take_at, take-length}
 use Rattle.octets.specs.Places.{part, copied}
 use Rattle.octets.proofs.PlaceLaws.{first_true, second_true}
@@ -152,16 +153,6 @@ path_part k n twelve e =
 
 -- ---- two kept paths
 
-module _ (a b : List ℕ) (i : ℕ) (f : i < length a) (g : i < length b) where
-  pub same_goes_on : get_or a i 0 ≡ get_or b i 0 → same_bytes (drop i a) (drop i b) ≡ same_bytes (drop (i + 1) a) (drop (i + 1) b)
-  same_goes_on e = rw (add-one, drop-cons a i 0 f, drop-cons b i 0 g, eq-eqb _ _ e)
-
-  pub same_differs : (get_or a i 0 ≡ get_or b i 0 → ⊥) → same_bytes (drop i a) (drop i b) ≡ false
-  same_differs e = rw (drop-cons a i 0 f, drop-cons b i 0 g, ne_eqb _ _ e)
-
-pub same_ends : (a b : List ℕ) (i : ℕ) → length a ≤ i → length b ≤ i → same_bytes (drop i a) (drop i b) ≡ true
-same_ends a b i f g = rw (drop_of_length-le a f, drop_of_length-le b g)
-
 same_bytes_law : (a b : List ℕ) → same_bytes a b ≡ true → a ≡ b
 same_bytes_law [] [] h = refl
 same_bytes_law [] (y ∷ b) h = absurd (false≢true h)
@@ -177,6 +168,17 @@ abbrev as_path : List ℕ → ℕ → Path
 as_path b n = record { bytes = b; count = n }
 
 -- the test says yes exactly if the two are one
+-- what `==` compares of two paths is what the definition compares
+pointwise_same : (a b : List ℕ) → pointwise eqb a b ≡ same_bytes a b
+pointwise_same [] [] = refl
+pointwise_same [] (y ∷ b) = refl
+pointwise_same (x ∷ a) [] = refl
+pointwise_same (x ∷ a) (y ∷ b) = ap (λ (t : Bool). eqb x y && t) (pointwise_same a b)
+
+pub equal_paths : (k l : Path) → (pointwise eqb k.bytes l.bytes && eqb k.count l.count) ≡ same_path k l
+unfolding same_path
+equal_paths k l = ap (λ (t : Bool). t && eqb k.count l.count) (pointwise_same k.bytes l.bytes)
+
 pub same_path_law : (k l : Path) → same_path k l ≡ true → k ≡ l
 unfolding same_path
 same_path_law k l h =

@@ -1,9 +1,9 @@
 // The path of a reply (document 01, 'Reply' and 'Owner'; 001, 5.1.6).
 ghost use Rattle.std.specs.Prelude.{◌≡◌, [], ◌≤◌, length};
-ghost use Rattle.packets.specs.Path.{path_of, kept, path_bytes, same_path, same_bytes as Path·same_bytes};
+ghost use Rattle.packets.specs.Path.{path_of, kept, path_bytes, same_path};
 
 // A path as it is kept: the last `count` of the bytes; what stands before them is zero.
-#[derive(Clone, Copy)]
+#[derive(Clone, Copy, PartialEq, Eq)]
 pub struct Path {
     pub bytes: [u8; 12],
     pub count: usize,
@@ -36,12 +36,7 @@ impl Path {
     pub fn same(self, other: Path) -> bool
         ensures { result ≡ same_path self other }
     {
-        let mine = self.bytes;
-        let its = other.bytes;
-        if !same_bytes(mine, its) {
-            return false;
-        }
-        self.count == other.count
+        self == other
     }
 }
 
@@ -70,17 +65,4 @@ fn path_count(address: &[u8]) -> usize
         zeros += 1;
     }
     n - zeros
-}
-
-fn same_bytes(a: [u8; 12], b: [u8; 12]) -> bool
-    ensures { result ≡ Path·same_bytes a b }
-{
-    let mut i = 0;
-    while i < 12 {
-        if a[i] != b[i] {
-            return false;
-        }
-        i += 1;
-    }
-    true
 }

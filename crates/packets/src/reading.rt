@@ -13,20 +13,20 @@ use crate::path::Path;
 use crate::{header, path};
 
 // How a packet ended.
-#[derive(Clone, Copy)]
+#[derive(Clone, Copy, PartialEq, Eq)]
 pub enum End {
     Eop,
     Eep,
 }
 
 // Why a packet goes no further.
-#[derive(Clone, Copy)]
+#[derive(Clone, Copy, PartialEq, Eq)]
 pub enum Refusal {
-    Incomplete,
-    UnknownProtocol,
-    ExtendedProtocol,
-    Reply,
-    HeaderCrc,
+    Incomplete = 11,
+    UnknownProtocol = 12,
+    ExtendedProtocol = 13,
+    Reply = 14,
+    HeaderCrc = 15,
 }
 
 #[derive(Clone, Copy)]
@@ -47,10 +47,7 @@ impl End {
     pub fn is_eop(self) -> bool
         ensures { result ≡ Reading·is_eop self }
     {
-        match self {
-            End::Eop => true,
-            End::Eep => false,
-        }
+        self == End::Eop
     }
 }
 
@@ -59,13 +56,7 @@ impl Refusal {
     pub fn number(self) -> u8
         ensures { result ≡ number_of self }
     {
-        match self {
-            Refusal::Incomplete => 11,
-            Refusal::UnknownProtocol => 12,
-            Refusal::ExtendedProtocol => 13,
-            Refusal::Reply => 14,
-            Refusal::HeaderCrc => 15,
-        }
+        self as u8
     }
 }
 

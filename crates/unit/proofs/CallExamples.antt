@@ -9,8 +9,6 @@ use Rattle.packets.specs.declared.reading.Refusal.TheVariants.{Incomplete, Unkno
 use Rattle.packets.specs.declared.path.Path.{Path}
 use Rattle.packets.specs.declared.time.When.TheVariants.{AtOnce}
 use Rattle.packets.specs.declared.time.Time.{Time as TheTime}
-use Rattle.packets.specs.declared.time.TimeReading.{TimeReading}
-use Rattle.packets.specs.declared.time.TimeReading.TheVariants.{ThrownAway, Taken}
 use Rattle.unit.specs.Fate.{fate_number, fate_status}
 use Rattle.unit.specs.Counters.{counted_for}
 use Rattle.unit.specs.Clock.{after_time, after_code, after_ticks}
@@ -98,9 +96,9 @@ precedence = (refl, refl, refl)
 -- ---- time packets
 
 -- 16 thrown away, 19 taken
-time_fates : (r : TimeReading) → fate_number (fate_in (time_ruling r)) ≡ time_number_of r
-time_fates ThrownAway = refl
-time_fates (Taken t) = refl
+time_fates : (r : Option TheTime) → fate_number (fate_in (time_ruling r)) ≡ time_number_of r
+time_fates None = refl
+time_fates (Some t) = refl
 
 -- 19: the time is changed, and what is lent is left
 time_taken : (t : TheTime) (path : Path) (u : TheUnit) (bytes : List ℕ) (link : ℕ) (lent : Lent)

@@ -1,6 +1,7 @@
 -- The ways that a packet and a command can go: what holds of each of them holds of every one. No memory command changes the unit, no field
 -- command changes memory.
 use Rattle.std.proofs.Common.{◌≡◌, ℕ, ◌+◌, Bool, true, false, cond, eqb, ◌≢◌, List, [], length, refl, Ok, Err}
+use Rattle.std.specs.Prelude.{Option, Some, None}
 use Rattle.octets.specs.Places.{part}
 use Rattle.octets.specs.Numbers.{number}
 use Rattle.packets.specs.Instruction.{wants_reply, header_size}
@@ -16,8 +17,6 @@ use Rattle.packets.specs.declared.reading.Reading.{Reading}
 use Rattle.packets.specs.declared.reading.Reading.TheVariants.{Refused, Time, Command}
 use Rattle.packets.specs.declared.reading.Refusal.{Refusal}
 use Rattle.packets.specs.declared.time.Time.{Time as TheTime}
-use Rattle.packets.specs.declared.time.TimeReading.{TimeReading}
-use Rattle.packets.specs.declared.time.TimeReading.TheVariants.{ThrownAway, Taken}
 use Rattle.unit.specs.Fate.{Status, byte_of, is_success, fate_number}
 use Rattle.unit.specs.Counters.{counted_for}
 use Rattle.unit.specs.Clock.{after_time, time_code_written}
@@ -59,7 +58,7 @@ module _ (u : TheUnit) (p : Arrived) where
   abbrev read : Reading
   read = (read_packet (as_read p).packet u.number).reading
 
-  abbrev time : TimeReading
+  abbrev time : Option TheTime
   time = read_time (as_read p).packet p.end u.logical u.number
 
   -- the fate is all, counted; and the time is taken
@@ -83,8 +82,8 @@ module _ (u : TheUnit) (p : Arrived) where
     pub packets_are : (Works false → Both (without_reply Unusable u))
         → (Works true → Linked false → Both (without_reply NoSuchLink u))
         → (Works true → Linked true → (why : Refusal) → read ≡ Refused why → Both (ended (Unread why)))
-        → (Works true → Linked true → read ≡ Time → time ≡ ThrownAway → Both (ended TimeThrownAway))
-        → (Works true → Linked true → read ≡ Time → (t : TheTime) → time ≡ Taken t → Both (timed t))
+        → (Works true → Linked true → read ≡ Time → time ≡ None → Both (ended TimeThrownAway))
+        → (Works true → Linked true → read ≡ Time → (t : TheTime) → time ≡ Some t → Both (timed t))
         → (Works true → Linked true → (h : Header) → read ≡ Command h → R (take_command u h path (as_read p) lent) (take_command u h path (as_read p) (with_memory lent n)))
         → R (take_packet u p lent) (take_packet u p (with_memory lent n))
     unfolding take_packet take_command counted_for
@@ -258,7 +257,7 @@ module _ (u : TheUnit) (p : Arrived) (lent : Lent) (Q : TheUnit → Type 0) (cou
       × (kind_in h ≡ Write → (word : ℕ) → Q (with_clock u (time_code_written u.clock word)) × Q (with_fields u (divider_written u.fields word)))
 
   pub unit_is : Q u
-      → (usable u (length lent.memory) ≡ true → (t : TheTime) → read_time (as_read p).packet p.end u.logical u.number ≡ Taken t → Q (with_clock u (after_time u.clock t)))
+      → (usable u (length lent.memory) ≡ true → (t : TheTime) → read_time (as_read p).packet p.end u.logical u.number ≡ Some t → Q (with_clock u (after_time u.clock t)))
       → (usable u (length lent.memory) ≡ true → is_link u p.link ≡ true → (h : Header) → (read_packet (as_read p).packet u.number).reading ≡ Command h
       → (h.protocol ≡ 0x01 → ⊥) → is_success (header_status u h path' p.link) ≡ true → Changes h)
       → Q (take_packet u p lent).answer.unit

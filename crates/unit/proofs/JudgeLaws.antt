@@ -1,4 +1,5 @@
 -- The ways that a judgement can go: what holds of each of them holds of every one.
+use Rattle.std.specs.Prelude.{Option, Some, None}
 use Rattle.std.proofs.Common.{◌≡◌, Bool, true, false, cond, not, refl}
 use Rattle.packets.specs.Reading.{read_packet}
 use Rattle.packets.specs.Time.{read_time}
@@ -8,8 +9,6 @@ use Rattle.packets.specs.declared.reading.Reading.{Reading}
 use Rattle.packets.specs.declared.reading.Reading.TheVariants.{Refused, Time, Command}
 use Rattle.packets.specs.declared.reading.Refusal.{Refusal}
 use Rattle.packets.specs.declared.time.Time.{Time as TheTime}
-use Rattle.packets.specs.declared.time.TimeReading.{TimeReading}
-use Rattle.packets.specs.declared.time.TimeReading.TheVariants.{ThrownAway, Taken}
 use Rattle.unit.specs.Usable.{usable}
 use Rattle.unit.specs.Given.{Arrived}
 use Rattle.unit.specs.Plan.{decided}
@@ -26,7 +25,7 @@ module _ (u : TheUnit) (p : Arrived) (sizes : Sizes) (Q : Judgement → Type 0) 
   abbrev read : Packet
   read = read_packet p.packet u.number
 
-  abbrev time : TimeReading
+  abbrev time : Option TheTime
   time = read_time p.packet p.end u.logical u.number
 
   -- a ruling on the packet as it was read
@@ -42,16 +41,16 @@ module _ (u : TheUnit) (p : Arrived) (sizes : Sizes) (Q : Judgement → Type 0) 
   pub judged_is : (Works false → Q (outright Unusable))
       → (Works true → Linked false → Q (outright NoSuchLink))
       → (Works true → Linked true → (why : Refusal) → read.reading ≡ Refused why → Rules (Ends (Unread why)))
-      → (Works true → Linked true → read.reading ≡ Time → time ≡ ThrownAway → Rules (Ends TimeThrownAway))
-      → (Works true → Linked true → read.reading ≡ Time → (t : TheTime) → time ≡ Taken t → Rules (SetsTime t))
+      → (Works true → Linked true → read.reading ≡ Time → time ≡ None → Rules (Ends TimeThrownAway))
+      → (Works true → Linked true → read.reading ≡ Time → (t : TheTime) → time ≡ Some t → Rules (SetsTime t))
       → (Works true → Linked true → (h : Header) → read.reading ≡ Command h → Rules (Planned h (decided u h read.path p sizes.reply)))
       → Q (judged u p sizes)
   unfolding judged
   judged_is one two refused away taken command = go (usable u sizes.memory) (is_link u p.link) refl refl
     where
-      times : Works true → Linked true → read.reading ≡ Time → (t : TimeReading) → time ≡ t → Rules (time_ruling t)
-      times e f g ThrownAway w = away e f g w
-      times e f g (Taken t) w = taken e f g t w
+      times : Works true → Linked true → read.reading ≡ Time → (t : Option TheTime) → time ≡ t → Rules (time_ruling t)
+      times e f g None w = away e f g w
+      times e f g (Some t) w = taken e f g t w
 
       reads : Works true → Linked true → (q : Reading) → read.reading ≡ q → Rules (ruling_on q read.path u p sizes)
       reads e f (Refused why) g = refused e f why g

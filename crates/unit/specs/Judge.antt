@@ -1,5 +1,7 @@
 -- What a packet comes to, judged before anything is touched (document 01, 'Numbers a caller gets', 'Reading a packet'): from the unit, from what
 -- arrived, as it is read, and from the sizes of what is lent. Nothing here speaks of what memory holds.
+use Rattle.packets.specs.declared.time.Time.{Time as TheTime}
+use Rattle.std.specs.Prelude.{Option, Some, None}
 use Rattle.std.specs.Prelude.{ℕ, Bool, cond, not, ◌&&◌, [], nat_le}
 use Rattle.packets.specs.Path.{kept}
 use Rattle.packets.specs.Reading.{read_packet}
@@ -8,8 +10,6 @@ use Rattle.packets.specs.declared.path.Path.{Path}
 use Rattle.packets.specs.declared.reading.Packet.{Packet}
 use Rattle.packets.specs.declared.reading.Reading.{Reading}
 use Rattle.packets.specs.declared.reading.Reading.TheVariants.{Refused, Time, Command}
-use Rattle.packets.specs.declared.time.TimeReading.{TimeReading}
-use Rattle.packets.specs.declared.time.TimeReading.TheVariants.{ThrownAway, Taken}
 use Rattle.unit.specs.Usable.{usable}
 use Rattle.unit.specs.Given.{Arrived}
 use Rattle.unit.specs.Plan.{decided}
@@ -22,9 +22,9 @@ use Rattle.unit.specs.declared.judging.Judgement.{Judgement}
 use Rattle.unit.specs.declared.unit.Unit.{Unit as TheUnit}
 
 -- A time packet: 16 thrown away, or 19 taken.
-abbrev pub time_ruling : TimeReading → Ruling
-time_ruling ThrownAway = Ends TimeThrownAway
-time_ruling (Taken t) = SetsTime t
+abbrev pub time_ruling : Option TheTime → Ruling
+time_ruling None = Ends TimeThrownAway
+time_ruling (Some t) = SetsTime t
 
 -- What was read: refused (11 to 15), time, or a command, which is decided.
 abbrev pub ruling_on : Reading → Path → TheUnit → Arrived → Sizes → Ruling

@@ -12,7 +12,7 @@ ghost use Rattle.unit.specs.Judge.{outright as Judge·outright};
 use crate::decide::{Plan, decide};
 use crate::fate::Fate;
 use crate::unit::Unit;
-use packets::{End, Header, Path, Reading, Time, TimeReading};
+use packets::{End, Header, Path, Reading, Time};
 
 // How long memory and reply buffer are.
 #[derive(Clone, Copy)]
@@ -103,9 +103,8 @@ fn ruling_on(
 fn time_ruling(unit: Unit, packet: &[u8], end: End) -> Ruling
     ensures { result ≡ Judge·time_ruling (read_time packet.now end unit.logical unit.number) }
 {
-    let reading = packets::read_time(packet, end, unit.logical, unit.number);
-    match reading {
-        TimeReading::ThrownAway => Ruling::Ends(Fate::TimeThrownAway),
-        TimeReading::Taken(time) => Ruling::SetsTime(time),
+    match packets::read_time(packet, end, unit.logical, unit.number) {
+        None => Ruling::Ends(Fate::TimeThrownAway),
+        Some(time) => Ruling::SetsTime(time),
     }
 }

@@ -4,6 +4,8 @@ use Prim.Native.Nat.{◌+◌, ◌-◌}
 use native.Mathlib.Omega.{arith}
 use borrow.Author.Tests.{eq-eqb, ne_eqb}
 use lib.ListN.{length}
+use Rattle.std.proofs.Common.{rules}
+use Rattle.packets.specs.Reading.{is_eop}
 use Rattle.packets.specs.Time.{added_seconds, added_fraction}
 use Rattle.packets.proofs.time.is_time_packet.Goals as goal
 
@@ -24,4 +26,5 @@ returns c =
     let size : length p ≡ 12 + added_seconds p + added_fraction p =
     omega (arith, c.if-p-seconds.false, c.added_seconds-seconds.ensures, c.added_fraction.ensures) in
     let more : 4 + c.added_seconds-seconds.result - 4 ≡ added_seconds p = omega (arith, c.added_seconds-seconds.ensures) in
-    rw (eq-eqb _ _ size, c.crc_of-sum.ensures, c.is_eop-eop.ensures, c.worth_nothing-zeros.ensures, more)
+    let eop : c.eq-eop.result ≡ is_eop c.args.end = search rules in
+    rw (eq-eqb _ _ size, c.crc_of-sum.ensures, eop, c.worth_nothing-zeros.ensures, more)
