@@ -8,6 +8,7 @@ use crate::clock::Clock;
 use crate::decide::Plan;
 use crate::fate::Fate;
 use crate::judging::{Judgement, Ruling, Sizes, judge_read};
+use crate::owner::Sender;
 use crate::unit::Unit;
 use crate::{act, clock};
 use packets::{End, Header, Path};
@@ -129,7 +130,12 @@ fn follow(
 {
     act::respond(plan, unit, h, path, link, memory, reply);
     act::store(plan.action, bytes, memory);
-    let changed = act::change(unit, plan.action, h.initiator, path, link);
+    let sender = Sender {
+        initiator: h.initiator,
+        path,
+        link,
+    };
+    let changed = act::change(unit, plan.action, sender);
     Answer {
         unit: act::count(changed, plan.fate),
         fate: plan.fate,
