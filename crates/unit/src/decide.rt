@@ -19,6 +19,7 @@ use crate::fields::{Named, swap_offence};
 use crate::owner::{Owner, Sender};
 use crate::unit::Unit;
 use crate::windows::Windows;
+use octets::Octets;
 use packets::{End, Header, Instruction, Kind, Path};
 
 // ---- the first half: what the header decides
@@ -50,7 +51,7 @@ impl Asked {
         if i.packet_type() != 1 {
             return Err(Offence::UnusedCode);
         }
-        if self.kind.is_unused() {
+        if self.kind == Kind::Unused {
             return Err(Offence::UnusedCode);
         }
         if h.key != key {
@@ -67,7 +68,7 @@ impl Asked {
         ensures { result ≡ Decide·span_size self.header }
     {
         let h = self.header;
-        if self.kind.is_rmw() {
+        if self.kind == Kind::ReadModifyWrite {
             return h.length / 2;
         }
         if h.instruction.is_incrementing() {
@@ -93,7 +94,7 @@ impl Asked {
     {
         let h = self.header;
         let i = h.instruction;
-        if self.kind.is_rmw() & ((8 < h.length) | (h.length % 2 != 0)) {
+        if (self.kind == Kind::ReadModifyWrite) & ((8 < h.length) | (h.length % 2 != 0)) {
             return Err(Offence::RmwLength);
         }
         if !self.is_authorised(windows) {
@@ -160,7 +161,7 @@ impl Asked {
 fn is_field_length(kind: Kind, length: u32) -> bool
     ensures { result ≡ Decide·is_field_length kind length }
 {
-    if kind.is_rmw() {
+    if kind == Kind::ReadModifyWrite {
         return length == 8;
     }
     (length % 4 == 0) & (4 <= length) & (length <= 64)
@@ -170,7 +171,7 @@ fn is_field_length(kind: Kind, length: u32) -> bool
 fn field_count(kind: Kind, length: u32) -> u32
     ensures { result ≡ Decide·field_count kind length }
 {
-    if kind.is_rmw() {
+    if kind == Kind::ReadModifyWrite {
         return 1;
     }
     length / 4
@@ -208,7 +209,7 @@ impl Asked {
         ensures { result ≡ Decide·wanted_count self.header }
     {
         let h = self.header;
-        if self.kind.is_read() {
+        if self.kind == Kind::Read {
             return 0;
         }
         h.length as usize + 1
@@ -219,7 +220,7 @@ impl Asked {
 fn data_status(k: usize, crc: u8, wanted: usize, end: End) -> Status
     ensures { result ≡ Decide·data_status k crc wanted end }
 {
-    if !end.is_eop() {
+    if end != End::Eop {
         return Err(Offence::EndedByEep);
     }
     if k < wanted {
@@ -239,7 +240,7 @@ fn data_status(k: usize, crc: u8, wanted: usize, end: End) -> Status
 fn data_crc(bytes: &[u8], wanted: usize, end: End) -> u8
     ensures { Decide·data_status (length bytes.now) result wanted end ≡ Decide·data_status (length bytes.now) (Crc·crc bytes.now) wanted end }
 {
-    if !end.is_eop() {
+    if end != End::Eop {
         return 0;
     }
     if bytes.len() != wanted {
@@ -321,7 +322,7 @@ impl Asked {
         ensures { result ≡ Plan·reply_count self.header }
     {
         let h = self.header;
-        if self.kind.is_rmw() {
+        if self.kind == Kind::ReadModifyWrite {
             return h.length / 2;
         }
         h.length
@@ -422,7 +423,7 @@ fn word_at(bytes: &[u8], at: usize) -> u32
     requires { at + 4 ≤ length bytes.now }
     ensures { result ≡ number (part at 4 bytes.now) }
 {
-    octets::number4(bytes[at], bytes[at + 1], bytes[at + 2], bytes[at + 3])
+    u32::from_octets([bytes[at], bytes[at + 1], bytes[at + 2], bytes[at + 3]])
 }
 
 fn unanswered(status: Status) -> Fate

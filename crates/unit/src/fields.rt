@@ -6,6 +6,7 @@ ghost use Rattle.unit.specs.Fields.{link_information as Fields·link_information
 
 use crate::fate::{Offence, Status};
 use crate::owner::Owner;
+use octets::Octets;
 use packets::Path;
 
 // The values as held. What a read shows of the owner, the links and the Time-Code is not held here.
@@ -133,9 +134,9 @@ fn path_words(path: Path) -> [u32; 3]
 {
     let p = path.bytes;
     [
-        octets::number4(p[0], p[1], p[2], p[3]),
-        octets::number4(p[4], p[5], p[6], p[7]),
-        octets::number4(p[8], p[9], p[10], p[11]),
+        u32::from_octets([p[0], p[1], p[2], p[3]]),
+        u32::from_octets([p[4], p[5], p[6], p[7]]),
+        u32::from_octets([p[8], p[9], p[10], p[11]]),
     ]
 }
 
@@ -204,7 +205,7 @@ impl Named {
         let mut out = [0u8; 64];
         for i in 0..self.count {
             let row = row_of(self.address + i as u32);
-            let word = octets::bytes4(values[row]);
+            let word: [u8; 4] = values[row].to_octets();
             octets::copy_part(&word, 0, 4, &mut out, 4 * i);
         }
         out

@@ -16,10 +16,10 @@ loop-i-preserved c =
     let i = c.loop-i.i in
     let out = c.loop-i.out in
     let place = c.row_of-row.ensures.answers ∙ ap row_of (sym (named_at a.address a.count i (omega arith))) in
-    let word = c.bytes4-word.ensures ∙ ap (λ (x : ℕ). bytes_of 4 (get_or c.args.values x 0)) place in
+    let word = c.to_octets-word.ensures ∙ ap (λ (x : ℕ). bytes_of 4 (get_or c.args.values x 0)) place in
     let put = c.copy_part.ensures.leaves in
     let there : i < length l = rw (length_named a.address a.count) (omega arith) in (
-      ap length put ∙ length_copied c.bytes4-word.result 0 4 out (4 * i) ∙ c.loop-i.invariant.0,
+      ap length put ∙ length_copied c.to_octets-word.result 0 4 out (4 * i) ∙ c.loop-i.invariant.0,
       bytes_next c.args.values l out i there (omega arith) c.loop-i.invariant.1 word put,
     )
 
