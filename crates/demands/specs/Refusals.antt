@@ -1,4 +1,5 @@
 -- Demand 1: the table of numbers, row by row (document 01, 'Numbers a caller gets' and 'Effects').
+use Rattle.std.specs.Prelude.{Ok, Err}
 use Rattle.std.specs.Prelude.{Option, Some, None}
 use Rattle.std.specs.Prelude.{◌≡◌, Bool, true, false, cond, not, ◌&&◌, ◌⊎◌, ◌↔◌, List, [], ◌∷◌, ℕ, ◌+◌, ◌-◌, ◌%◌, ◌^◌, ◌<◌, min, eqb, length, drop}
 use Rattle.octets.specs.Places.{part, placed}
@@ -12,7 +13,7 @@ use Rattle.packets.specs.Time.{read_time}
 use Rattle.packets.specs.declared.instruction.Kind.{Kind}
 use Rattle.packets.specs.declared.instruction.Kind.TheVariants.{Unused, Read, ReadModifyWrite, Write}
 use Rattle.packets.specs.declared.header.Header.{Header}
-use Rattle.packets.specs.declared.reading.Reading.TheVariants.{Refused, Time}
+use Rattle.packets.specs.declared.reading.Packet.TheVariants.{Time}
 use Rattle.packets.specs.declared.time.Time.{Time as TheTime}
 use Rattle.unit.specs.Some.{some}
 use Rattle.unit.specs.Fate.{byte_of, is_success, or_else, fate_number, fate_status}
@@ -110,7 +111,7 @@ length_due u p h = reply_length (path_in u p) h (byte_of (status_due u p h)) (re
 
 -- The packet is read as a time packet, thrown away or taken.
 abbrev pub TimeReadAs : TheUnit → Arrived → Option TheTime → Type 0
-TimeReadAs u p time = ReadAs u p Time × (read_time (as_read p).packet p.end u.logical u.number ≡ time)
+TimeReadAs u p time = ReadAs u p (Ok Time) × (read_time (as_read p).packet p.end u.logical u.number ≡ time)
 
 -- ---- the rows
 
@@ -159,7 +160,7 @@ Leaves TimeChanged u p lent o = ⊥  -- 0 is no packet's
 Leaves Unusable u p lent o = Unchanged u lent o  -- 1
 Leaves NoSuchLink u p lent o = Unchanged u lent o  -- 2
 Leaves NoRoom u p lent o = Unchanged u lent o  -- 3
-Leaves (Unread why) u p lent o = ReadAs u p (Refused why) × OnlyCounted (number_of why) u lent o  -- 11 to 15
+Leaves (Unread why) u p lent o = ReadAs u p (Err why) × OnlyCounted (number_of why) u lent o  -- 11 to 15
 Leaves TimeThrownAway u p lent o = TimeReadAs u p None × OnlyCounted 16 u lent o
 Leaves (NotObeyed s) u p lent o = Refuses s 17 false u p lent o × NoReply lent o
 Leaves Obeyed u p lent o = Obeys 18 false u p lent o × NoReply lent o

@@ -6,7 +6,7 @@ ghost use Rattle.unit.specs.Calls.{without_reply as Calls·without_reply, acted,
 
 use crate::decide::Plan;
 use crate::fate::Fate;
-use crate::judging::{Judgement, Ruling, Sizes, judge_read};
+use crate::judging::{Ruling, Sizes, judge_read};
 use crate::unit::Unit;
 use crate::{act, clock};
 use packets::{End, Header, Path};
@@ -35,8 +35,8 @@ pub fn take_packet(
         reply: reply.len(),
     };
     let bytes = packets::bare(packet);
-    let judgement = judge_read(unit, bytes, end, link, sizes);
-    carry_out(judgement, unit, bytes, link, memory, reply)
+    let ruling = judge_read(unit, bytes, end, link, sizes);
+    carry_out(ruling, unit, bytes, link, memory, reply)
 }
 
 // Takes a Time-Code: its low six bits.
@@ -83,18 +83,16 @@ fn ended(unit: Unit, fate: Fate) -> Answer
 
 // Does what a packet was judged to come to, whose bytes these are.
 fn carry_out(
-    judgement: Judgement,
+    ruling: Ruling,
     unit: Unit,
     bytes: &[u8],
     link: u8,
     memory: &mut [u8],
     reply: &mut [u8],
 ) -> Answer
-    requires { GrantedBy judgement.ruling judgement.path (length bytes.now) (length memory.old) (length reply.old) }
-    ensures { record { answer = result; memory = memory.new; reply = reply.new } ≡ done judgement unit bytes.now link (record { memory = memory.old; reply = reply.old }) }
+    requires { GrantedBy ruling (length bytes.now) (length memory.old) (length reply.old) }
+    ensures { record { answer = result; memory = memory.new; reply = reply.new } ≡ done ruling unit bytes.now link (record { memory = memory.old; reply = reply.old }) }
 {
-    let path = judgement.path;
-    let ruling = judgement.ruling;
     match ruling {
         Ruling::Ends(fate) => ended(unit, fate),
         Ruling::SetsTime(time) => {
@@ -102,7 +100,9 @@ fn carry_out(
             u.clock = clock::set_time(unit.clock, time);
             ended(u, Fate::TimeTaken)
         }
-        Ruling::Planned(h, plan) => follow(plan, unit, h, path, bytes, link, memory, reply),
+        Ruling::Planned(c, plan) => follow(
+            plan, unit, c.header, c.path, bytes, link, memory, reply,
+        ),
     }
 }
 

@@ -25,7 +25,7 @@ pub use clock::{Clock, Elapsed, Waiting};
 pub use decide::{Action, Plan};
 pub use fate::{Fate, Status, Told};
 pub use fields::Fields;
-pub use judging::{Judgement, Ruling, Sizes, judge};
+pub use judging::{Ruling, Sizes, judge};
 pub use owner::Owner;
 pub use unit::Unit;
 pub use windows::{Window, Windows};
