@@ -1,5 +1,5 @@
 -- Demand 1: the table of numbers, row by row (document 01, 'Numbers a caller gets' and 'Effects').
-use Rattle.std.specs.Prelude.{◌≡◌, Bool, true, false, cond, not, ◌&&◌, ◌⊎◌, ◌↔◌, List, [], ◌∷◌, ℕ, ◌+◌, ◌-◌, ◌%◌, ◌^◌, ◌<◌, min, eqb, length, drop, Option, Some, None, Err}
+use Rattle.std.specs.Prelude.{◌≡◌, Bool, true, false, cond, not, ◌&&◌, ◌⊎◌, ◌↔◌, List, [], ◌∷◌, ℕ, ◌+◌, ◌-◌, ◌%◌, ◌^◌, ◌<◌, min, eqb, length, drop, Option, Some, None, Err, Ok}
 use Rattle.octets.specs.Places.{part, placed}
 use Rattle.octets.specs.Numbers.{Digits, number}
 use Rattle.octets.specs.Crc.{crc}
@@ -11,7 +11,7 @@ use Rattle.packets.specs.Time.{read_time}
 use Rattle.packets.specs.declared.instruction.Kind.{Kind}
 use Rattle.packets.specs.declared.instruction.Kind.TheVariants.{Unused, Read, ReadModifyWrite, Write}
 use Rattle.packets.specs.declared.header.Header.{Header}
-use Rattle.packets.specs.declared.reading.Reading.TheVariants.{Refused, Time}
+use Rattle.packets.specs.declared.reading.Packet.TheVariants.{Time}
 use Rattle.packets.specs.declared.time.Time.{Time as TheTime}
 use Rattle.unit.specs.Some.{some}
 use Rattle.unit.specs.Fate.{Status, byte_of, is_success, or_else, fate_number, fate_status}
@@ -106,7 +106,7 @@ length_due u p h = reply_length (path_in u p) h (byte_of (status_due u p h)) (re
 
 -- The packet is read as a time packet, thrown away or taken.
 abbrev pub TimeReadAs : TheUnit → Arrived → Option TheTime → Type 0
-TimeReadAs u p time = ReadAs u p Time × (read_time (as_read p).packet p.end u.logical u.number ≡ time)
+TimeReadAs u p time = ReadAs u p (Ok Time) × (read_time (as_read p).packet p.end u.logical u.number ≡ time)
 
 -- ---- the rows
 
@@ -155,7 +155,7 @@ Leaves TimeChanged u p lent o = ⊥  -- 0 is no packet's
 Leaves Unusable u p lent o = Unchanged u lent o  -- 1
 Leaves NoSuchLink u p lent o = Unchanged u lent o  -- 2
 Leaves NoRoom u p lent o = Unchanged u lent o  -- 3
-Leaves (Unread why) u p lent o = ReadAs u p (Refused why) × OnlyCounted (number_of why) u lent o  -- 11 to 15
+Leaves (Unread why) u p lent o = ReadAs u p (Err why) × OnlyCounted (number_of why) u lent o  -- 11 to 15
 Leaves TimeThrownAway u p lent o = TimeReadAs u p None × OnlyCounted 16 u lent o
 Leaves (NotObeyed offence) u p lent o = Refuses (Err offence) 17 false u p lent o × NoReply lent o
 Leaves Obeyed u p lent o = Obeys 18 false u p lent o × NoReply lent o

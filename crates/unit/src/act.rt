@@ -17,7 +17,7 @@ use crate::memory::{gather, scatter};
 use crate::owner::Sender;
 use crate::unit::Unit;
 use crate::{clock, fields};
-use packets::{Header, Path};
+use packets::Command;
 
 // ---- the reply
 
@@ -25,37 +25,34 @@ use packets::{Header, Path};
 pub(crate) fn respond(
     plan: Plan,
     unit: Unit,
-    h: Header,
-    path: Path,
+    command: Command,
     link: u8,
     memory: &[u8],
     reply: &mut [u8],
 )
-    requires { Readable plan.action (length memory.now) × (fate_number plan.fate ≡ 20 → Answerable plan.action h path (byte_of plan.status) (length reply.old)) }
-    ensures { reply.new ≡ replied_to plan unit h path link (record { memory = memory.now; reply = reply.old }) }
+    requires { Readable plan.action (length memory.now) × (fate_number plan.fate ≡ 20 → Answerable plan.action command.header command.path (byte_of plan.status) (length reply.old)) }
+    ensures { reply.new ≡ replied_to plan unit command.header command.path link (record { memory = memory.now; reply = reply.old }) }
 {
     if let Fate::Replied(_) = plan.fate {
         let to = Reply {
-            h,
-            path,
+            command,
             status: status_byte(plan.status),
         };
         to.answer(plan.action, unit, link, memory, reply);
     }
 }
 
-// A reply less its data: to which command, by which path, with which status.
+// A reply less its data: to which command, with which status.
 #[derive(Clone, Copy)]
 struct Reply {
-    h: Header,
-    path: Path,
+    command: Command,
     status: u8,
 }
 
 impl Reply {
     fn answer(self, action: Action, unit: Unit, link: u8, memory: &[u8], out: &mut [u8])
-        requires { Readable action (length memory.now) × Answerable action self.h self.path self.status (length out.old) }
-        ensures { out.new ≡ replied self.path self.h self.status (data_for action unit link memory.now) out.old }
+        requires { Readable action (length memory.now) × Answerable action self.command.header self.command.path self.status (length out.old) }
+        ensures { out.new ≡ replied self.command.path self.command.header self.status (data_for action unit link memory.now) out.old }
     {
         match action {
             Action::Nothing
@@ -67,7 +64,14 @@ impl Reply {
             }
             Action::RepeatByte(at, count) => {
                 let byte = byte_at(memory, at, count);
-                packets::write_repeated_reply(self.path, self.h, self.status, byte, count, out);
+                packets::write_repeated_reply(
+                    self.command.path,
+                    self.command.header,
+                    self.status,
+                    byte,
+                    count,
+                    out,
+                );
             }
             Action::ReadFields(address, count) => {
                 let bytes = shown(unit, link, address, count);
@@ -78,18 +82,36 @@ impl Reply {
     }
 
     fn write(self, bytes: &[u8], out: &mut [u8])
-        ensures { out.new ≡ replied self.path self.h self.status bytes.now out.old }
+        ensures { out.new ≡ replied self.command.path self.command.header self.status bytes.now out.old }
     {
-        packets::write_reply(self.path, self.h, self.status, bytes, out);
+        packets::write_reply(
+            self.command.path,
+            self.command.header,
+            self.status,
+            bytes,
+            out,
+        );
     }
 
     // Bytes of memory are gathered into their place in the reply, which is then written around them.
     fn write_memory(self, memory: &[u8], at: usize, count: usize, out: &mut [u8])
-        requires { (at + count ≤ length memory.now) × Gatherable count self.h self.path self.status (length out.old) }
-        ensures { out.new ≡ replied self.path self.h self.status (part at count memory.now) out.old }
+        requires { (at + count ≤ length memory.now) × Gatherable count self.command.header self.command.path self.status (length out.old) }
+        ensures { out.new ≡ replied self.command.path self.command.header self.status (part at count memory.now) out.old }
     {
-        gather(memory, at, count, out, packets::data_place(self.path));
-        packets::write_reply_around(self.path, self.h, self.status, count as u32, out);
+        gather(
+            memory,
+            at,
+            count,
+            out,
+            packets::data_place(self.command.path),
+        );
+        packets::write_reply_around(
+            self.command.path,
+            self.command.header,
+            self.status,
+            count as u32,
+            out,
+        );
     }
 }
 

@@ -9,13 +9,13 @@ pub gather-requires : goal.gather-requires
 gather-requires c =
     let a = c.args in
     let w = c.requires in
-    let room = carried_room a.self.path a.self.h a.self.status a.count a.out.now w.1.0 w.1.1 in
+    let room = carried_room a.self.command.path a.self.command.header a.self.status a.count a.out.now w.1.0 w.1.1 in
     (w.0, omega (arith, room, c.data_place.ensures))
 
 pub returns : goal.returns
 returns c =
     let a = c.args in
     let w = c.requires in
-    gathered_reply a.self.path a.self.h a.self.status a.count a.out.now w.1.0 w.1.1 (part a.at a.count a.memory.now)
+    gathered_reply a.self.command.path a.self.command.header a.self.status a.count a.out.now w.1.0 w.1.1 (part a.at a.count a.memory.now)
     (length_part a.at a.count a.memory.now w.0) (rw c.data_place.ensures at c.gather.ensures)
     c.write_reply_around.ensures.leaves
