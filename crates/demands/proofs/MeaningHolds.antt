@@ -22,7 +22,6 @@ use Rattle.unit.specs.Act.{stored}
 use Rattle.unit.specs.Calls.{Outcome, take_packet}
 use Rattle.unit.specs.declared.fate.Fate.{Fate}
 use Rattle.unit.specs.declared.fate.Fate.TheVariants.{Replied}
-use Rattle.unit.specs.declared.judging.Judgement.{Judgement}
 use Rattle.unit.specs.declared.unit.Unit.{Unit as TheUnit}
 use Rattle.unit.proofs.DecideLaws.{writes, write_bit_is, data_refuses}
 use Rattle.unit.proofs.PlanLaws.{memory_action_in}
@@ -48,20 +47,20 @@ pub ticks_promise : TicksPromise
 ticks_promise κs unit count answer exit p = p
 
 pub judge_promise : JudgePromise
-judge_promise κs unit bytes end link sizes judgement exit p = p
+judge_promise κs unit bytes end link sizes ruling exit p = p
 
 pub told_as_judged : AsJudged ours
 told_as_judged u p lent = as_judged u p lent
 
 pub judge_foretells : JudgeForetells
-judge_foretells κs unit bytes end link sizes judgement exit κs' again memory reply answer unit' again' end' link' memory' reply' judges takes same lent =
+judge_foretells κs unit bytes end link sizes ruling exit κs' again memory reply answer unit' again' end' link' memory' reply' judges takes same lent =
     let p : Arrived = record { packet = again.now; end = end; link = link } in
     let given : Lent = record { memory = memory.now; reply = reply.now } in
-    let j : judgement ≡ judged unit (as_read p) (sizes_of given) =
+    let j : ruling ≡ judged unit (as_read p) (sizes_of given) =
     judges ∙ ap (λ (b : List ℕ). judged unit (as_read (record { packet = b; end = end; link = link })) sizes) same ∙ ap (judged unit (as_read p)) lent in
     let told = as_judged unit p given in (
-      ap (λ (o : Outcome). o.answer.fate) takes ∙ told.0 ∙ sym (ap (λ (k : Judgement). fate_in k.ruling) j),
-      ap (λ (o : Outcome). o.answer.length) takes ∙ told.1 ∙ sym (ap (λ (k : Judgement). length_in k.ruling) j),
+      ap (λ (o : Outcome). o.answer.fate) takes ∙ told.0 ∙ sym (ap fate_in j),
+      ap (λ (o : Outcome). o.answer.length) takes ∙ told.1 ∙ sym (ap length_in j),
     )
 
 -- ---- refused, and memory unchanged
@@ -145,4 +144,4 @@ refused_changes_none u p lent h is guarded other = go (only_stores_change u p le
     go (inr stores) =
         let k = stores.0 in
         absurd (other (guarded_zero k (fate_status (take_packet u p lent).answer.fate)
-        (rw (one_command (read_of u p).reading h k is stores.1) guarded) stores.3))
+        (rw (one_command (read_of u p) h k is stores.1) guarded) stores.3))

@@ -1,5 +1,6 @@
 -- Names are kept: a command that passed the checks has named fields of the table only, and its span is one window's.
 use Rattle.std.proofs.Common.{Option, Some, None, Err, Ok}
+use Rattle.std.specs.Prelude.{Ok, Err}
 use mathlib.Core.Path.{◌≡◌, refl, sym, ◌∙◌, ap}
 use mathlib.Core.Bool.{Bool, true, false, cond, ◌&&◌, false≢true, or-true}
 use mathlib.Core.Logic.{◌≢◌}
@@ -13,7 +14,7 @@ use Rattle.octets.proofs.PlaceLaws.{first_true, second_true}
 use Rattle.packets.specs.Header.{kind_in}
 use Rattle.packets.specs.declared.header.Header.{Header}
 use Rattle.packets.specs.declared.path.Path.{Path}
-use Rattle.packets.specs.declared.reading.Reading.TheVariants.{Refused, Time}
+use Rattle.packets.specs.declared.reading.Packet.TheVariants.{Time}
 use Rattle.packets.proofs.ReadingLaws.{not_command, one_command}
 use Rattle.unit.proofs.FateLaws.{success_byte}
 use Rattle.unit.specs.Some.{some}
@@ -101,7 +102,7 @@ pub obeyed_in_window : ObeyedInWindow ours
 obeyed_in_window u p lent h is rmap =
     packet_is u p lent Q (λ e z. absurd (no_status z)) (λ e f z. absurd (no_status z)) (λ e f why g z. absurd (no_status z)) (λ e f g z. absurd (no_status z))
     (λ e f g t z. absurd (no_status z))
-    (λ e f k g. command k (one_command (read_of u p).reading h k is g))
+    (λ e f k g. command k (one_command (read_of u p) h k is g))
   where
     path : Path
     path = path_in u p
@@ -160,19 +161,19 @@ pub missing_refused : MissingRefused ours
 missing_refused u p lent h is fields lacks =
     packet_is u p lent (λ o. fate_status o.answer.fate ≢ Some 0) (λ e. no_status) (λ e f. no_status) (λ e f why g. no_status) (λ e f g. no_status)
     (λ e f g t. no_status)
-    (λ e f k g. rw (one_command (read_of u p).reading h k is g) (command_refused u p lent h is fields lacks))
+    (λ e f k g. rw (one_command (read_of u p) h k is g) (command_refused u p lent h is fields lacks))
 
 pub missing_is_f1 : MissingIsF1 ours
 missing_is_f1 u p lent h is fields lacks works there o n fits =
     packet_is u p lent (SaysF1 u p lent h is fields lacks) (λ e. absurd (false≢true (sym e ∙ works))) (λ e f. absurd (false≢true (sym f ∙ there)))
-    (λ e f why g. absurd (not_command (Refused why) (omega arith) (sym g ∙ is))) (λ e f g. absurd (not_command Time (omega arith) (sym g ∙ is)))
-    (λ e f g t. absurd (not_command Time (omega arith) (sym g ∙ is)))
-    (λ e f k g. rw (one_command (read_of u p).reading h k is g) (command_f1 u p lent h is fields lacks o n)) room
+    (λ e f why g. absurd (not_command (Err why) (omega arith) (sym g ∙ is))) (λ e f g. absurd (not_command (Ok Time) (omega arith) (sym g ∙ is)))
+    (λ e f g t. absurd (not_command (Ok Time) (omega arith) (sym g ∙ is)))
+    (λ e f k g. rw (one_command (read_of u p) h k is g) (command_f1 u p lent h is fields lacks o n)) room
   where
     room : fate_number (take_packet u p lent).answer.fate ≡ 3 → ⊥
     room three =
         let due = ((one_two_three u p lent).2.0 three).2 in
-        let same = one_command (read_of u p).reading h due.0 is due.1 in
+        let same = one_command (read_of u p) h due.0 is due.1 in
         let long : length lent.reply < length_due u p h = rw same at due.3 in
         let short = fits (rw same at due.2) in
         omega (arith, long, short)

@@ -1,5 +1,6 @@
 -- Demand 1, which number is given, holds: 1, 2 and 3 exactly where they are due, the small calls, and the list of numbers and statuses.
 use Rattle.std.proofs.Common.{Ok, Err}
+use Rattle.std.specs.Prelude.{Ok, Err}
 use mathlib.Core.Path.{◌≡◌, refl, sym, ◌∙◌}
 use mathlib.Core.Bool.{true, false≢true}
 use mathlib.Core.Logic.{inl, inr, ◌↔◌}
@@ -9,7 +10,7 @@ use lib.Dec.{eqb}
 use lib.ListN.{length}
 use Rattle.packets.specs.Reading.{number_of}
 use Rattle.packets.specs.declared.header.Header.{Header}
-use Rattle.packets.specs.declared.reading.Reading.TheVariants.{Refused, Time}
+use Rattle.packets.specs.declared.reading.Packet.TheVariants.{Time}
 use Rattle.packets.specs.declared.reading.Refusal.{Refusal}
 use Rattle.packets.specs.declared.reading.Refusal.TheVariants.{Incomplete, UnknownProtocol, ExtendedProtocol, Reply, HeaderCrc}
 use Rattle.unit.specs.Some.{some}
@@ -62,7 +63,7 @@ module _ (u : TheUnit) (p : Arrived) (lent : Lent) where
       let status = plan_status u h path (all_at_hand h (as_read p)) p.end p.link (length lent.reply) in (
         λ n. let x = plan.0 n in (h, is, x.0, rw status at x.1),
         λ too.
-            let same = one_command (read_of u p).reading h too.0 is too.1 in
+            let same = one_command (read_of u p) h too.0 is too.1 in
             plan.1 (rw same at too.2, rw status (rw same at too.3)),
       )
 
@@ -79,9 +80,9 @@ module _ (u : TheUnit) (p : Arrived) (lent : Lent) where
         (λ n. (e, f), λ g. refl),
         (λ n. absurd (omega (arith, n)), λ g. absurd (false≢true (sym f ∙ g.1))),
       ))
-      (λ e f why g. never e f (number_of why) (unread_number why).0 (λ h is. not_command (Refused why) (omega arith) (sym g ∙ is)))
-      (λ e f g. never e f 16 (omega arith) (λ h is. not_command Time (omega arith) (sym g ∙ is)))
-      (λ e f g t. never e f 19 (omega arith) (λ h is. not_command Time (omega arith) (sym g ∙ is)))
+      (λ e f why g. never e f (number_of why) (unread_number why).0 (λ h is. not_command (Err why) (omega arith) (sym g ∙ is)))
+      (λ e f g. never e f 16 (omega arith) (λ h is. not_command (Ok Time) (omega arith) (sym g ∙ is)))
+      (λ e f g t. never e f 19 (omega arith) (λ h is. not_command (Ok Time) (omega arith) (sym g ∙ is)))
       (λ e f h g. later e f (fate_number (take_command u h (path_in u p) (as_read p) lent).answer.fate)
       (command_fate u h (path_in u p) (as_read p) lent (λ f. 3 ≤ fate_number f) (omega arith) (λ s. omega arith) (λ o. omega arith) (omega arith))
       (command_three h g))

@@ -1,6 +1,9 @@
 -- Demand 1 leaves no room: 1, 2 and 3 are given exactly where they are due, each other row says how the packet was read and which status it is due, and with that
 -- all that it leaves. So the rows together are a function, `due`; what meets them is its value; and ours meets them too.
 use Rattle.std.proofs.Common.{Ok, Err}
+use Rattle.std.specs.Prelude.{Result, Ok, Err}
+use Rattle.packets.specs.declared.time.Time.{Time as TheTime}
+use Rattle.std.specs.Prelude.{Option, Some, None}
 use mathlib.Core.Path.{◌≡◌, refl, sym, ◌∙◌, ap}
 use mathlib.Core.Bool.{Bool, true, false, cond, false≢true, not-eq-not}
 use mathlib.Core.Logic.{inl, inr}
@@ -16,11 +19,10 @@ use Rattle.packets.specs.Header.{kind_in}
 use Rattle.packets.specs.Reading.{number_of}
 use Rattle.packets.specs.Time.{read_time}
 use Rattle.packets.specs.declared.header.Header.{Header}
-use Rattle.packets.specs.declared.reading.Reading.{Reading}
-use Rattle.packets.specs.declared.reading.Reading.TheVariants.{Refused, Time, Command}
-use Rattle.packets.specs.declared.time.TimeReading.{TimeReading}
-use Rattle.packets.specs.declared.time.TimeReading.TheVariants.{ThrownAway, Taken}
 use Rattle.unit.specs.Fate.{Status, is_success, fate_number}
+use Rattle.packets.specs.declared.reading.Packet.{Packet}
+use Rattle.packets.specs.declared.reading.Refusal.{Refusal}
+use Rattle.packets.specs.declared.reading.Packet.TheVariants.{Time, Command}
 use Rattle.unit.specs.Clock.{after_time, after_code, after_ticks}
 use Rattle.unit.specs.Usable.{usable}
 use Rattle.unit.specs.Act.{with_clock}
@@ -98,21 +100,22 @@ module _ (u : TheUnit) (p : Arrived) (lent : Lent) where
   silent_due h (Err offence) = ending (NotObeyed offence) (counted_as 17 u) (refused_on h (Err offence) p lent) lent.reply 0
 
   -- a time packet
-  abbrev time_due : TimeReading → Outcome
-  time_due ThrownAway = ending TimeThrownAway (counted_as 16 u) lent.memory lent.reply 0
-  time_due (Taken t) = ending TimeTaken (counted_as 19 (with_clock u (after_time u.clock t))) lent.memory lent.reply 0
+  abbrev time_due : Option TheTime → Outcome
+  time_due None = ending TimeThrownAway (counted_as 16 u) lent.memory lent.reply 0
+  time_due (Some t) = ending TimeTaken (counted_as 19 (with_clock u (after_time u.clock t))) lent.memory lent.reply 0
 
   -- past 1 and 2, by its reading
-  abbrev due_as : Reading → Outcome
-  due_as (Refused why) = ending (Unread why) (counted_as (number_of why) u) lent.memory lent.reply 0
-  due_as Time = time_due (read_time (as_read p).packet p.end u.logical u.number)
-  due_as (Command h) =
+  abbrev due_as : Result Packet Refusal → Outcome
+  due_as (Err why) = ending (Unread why) (counted_as (number_of why) u) lent.memory lent.reply 0
+  due_as (Ok Time) = time_due (read_time (as_read p).packet p.end u.logical u.number)
+  due_as (Ok (Command c)) =
+      let h = c.header in
       cond (wants_reply h.instruction)
       (cond (ltb (length lent.reply) (length_due u p h)) (leaving (without_reply NoRoom u) lent) (spoken_due h (status_due u p h)))
       (silent_due h (status_due u p h))
 
-  abbrev read : Reading
-  read = (read_of u p).reading
+  abbrev read : Result Packet Refusal
+  read = read_of u p
 
   abbrev works : Bool
   works = usable u (length lent.memory)
@@ -166,7 +169,7 @@ module _ (u : TheUnit) (p : Arrived) (lent : Lent) where
             rw (one_command read k.0 h k.1 row.2.1) (k.3, rw (rw k.3 at e) (k.5, rw k.3 at k.6))
 
     -- past them the reading decides
-    by_reading : (f : Fate) → 3 < fate_number f → Exactly u p lent (fate_number f) → {r : Reading} → read ≡ r → o ≡ due_as r → o ≡ due
+    by_reading : (f : Fate) → 3 < fate_number f → Exactly u p lent (fate_number f) → {r : Result Packet Refusal} → read ≡ r → o ≡ due_as r → o ≡ due
     by_reading f high exactly is e = rw ((past f high exactly).0, (past f high exactly).1, is) e
 
     -- row by row

@@ -53,27 +53,27 @@ TicksPromise =
 -- What the promise of `judge` claims: what the packet comes to, from the sizes of what would be lent.
 abbrev pub JudgePromise : Type 0
 JudgePromise =
-    (κs : _) (unit : _) (bytes : _) (end : _) (link : _) (sizes : _) (judgement : _) (exit : _)
-    → promise-of-judge κs (unit, (bytes, (end, (link, (sizes, tt))))) judgement exit
-    → judgement ≡ judged unit (as_read (record { packet = bytes.now; end = end; link = link })) sizes
+    (κs : _) (unit : _) (bytes : _) (end : _) (link : _) (sizes : _) (ruling : _) (exit : _)
+    → promise-of-judge κs (unit, (bytes, (end, (link, (sizes, tt))))) ruling exit
+    → ruling ≡ judged unit (as_read (record { packet = bytes.now; end = end; link = link })) sizes
 
 -- What is judged is what becomes of the packet: its fate, with the status, and the length of the reply.
 abbrev pub AsJudged : Terminal → Type 0
 AsJudged t =
     (u : TheUnit) (p : Arrived) (lent : Lent)
-    → ((t.packet u p lent).answer.fate ≡ fate_in (judged u (as_read p) (sizes_of lent)).ruling)
-    × ((t.packet u p lent).answer.length ≡ length_in (judged u (as_read p) (sizes_of lent)).ruling)
+    → ((t.packet u p lent).answer.fate ≡ fate_in (judged u (as_read p) (sizes_of lent)))
+    × ((t.packet u p lent).answer.length ≡ length_in (judged u (as_read p) (sizes_of lent)))
 
 -- So of the code: the fate, with its status, and the length of the reply that `judge` tells are those that `take_packet` answers, of the same unit, to
 -- the same bytes, end and link, with memory and a reply buffer of those sizes.
 abbrev pub JudgeForetells : Type 0
 JudgeForetells =
-    (κs : _) (unit : _) (bytes : _) (end : _) (link : _) (sizes : _) (judgement : _) (exit : _)
+    (κs : _) (unit : _) (bytes : _) (end : _) (link : _) (sizes : _) (ruling : _) (exit : _)
     (κs' : _) (again : _) (memory : _) (reply : _) (answer : _) (unit' : _) (again' : _) (end' : _) (link' : _) (memory' : _) (reply' : _)
-    → promise-of-judge κs (unit, (bytes, (end, (link, (sizes, tt))))) judgement exit
+    → promise-of-judge κs (unit, (bytes, (end, (link, (sizes, tt))))) ruling exit
     → promise-of-take_packet κs' (unit, (again, (end, (link, (memory, (reply, tt)))))) answer (unit', (again', (end', (link', (memory', (reply', tt))))))
     → bytes.now ≡ again.now → sizes ≡ record { memory = length memory.now; reply = length reply.now }
-    → (answer.fate ≡ fate_in judgement.ruling) × (answer.length ≡ length_in judgement.ruling)
+    → (answer.fate ≡ fate_in ruling) × (answer.length ≡ length_in ruling)
 
 -- What follows are consequences of the equation that the customer named.
 

@@ -1,4 +1,5 @@
 -- Laws of time packets: what one has passed, and when it is to be taken.
+use Rattle.std.specs.Prelude.{Option, Some, None}
 use mathlib.Core.Path.{◌≡◌, refl, sym, ap, ◌∙◌}
 use mathlib.Core.Bool.{Bool, true, false, cond, ◌&&◌, ◌||◌, or-true, false≢true}
 use mathlib.Core.Logic.{◌⊎◌, inl, inr, ⊎_elim}
@@ -22,8 +23,6 @@ use Rattle.packets.specs.declared.reading.End.TheVariants.{Eop, Eep}
 use Rattle.packets.specs.declared.time.Time.{Time as TheTime}
 use Rattle.packets.specs.declared.time.When.{When}
 use Rattle.packets.specs.declared.time.When.TheVariants.{AtWrap, AtOnce}
-use Rattle.packets.specs.declared.time.TimeReading.{TimeReading}
-use Rattle.packets.specs.declared.time.TimeReading.TheVariants.{ThrownAway, Taken}
 
 -- ---- tests
 
@@ -101,38 +100,38 @@ module _ (p : List ℕ) (end : End) (logical n : ℕ) where
         eq-eqb _ _ t.sum,
       )
 
-  abbrev is_taken : TimeReading → ℕ
-  is_taken r = elim r [ ThrownAway ↦ 0 | Taken s ↦ 1 ]
+  abbrev is_taken : Option TheTime → ℕ
+  is_taken r = elim r [ None ↦ 0 | Some s ↦ 1 ]
 
-  abbrev time_in : TimeReading → TheTime
-  time_in r = elim r [ ThrownAway ↦ time_at p | Taken s ↦ s ]
+  abbrev time_in : Option TheTime → TheTime
+  time_in r = elim r [ None ↦ time_at p | Some s ↦ s ]
 
   -- what is taken has passed, and says what stands in it
-  pub taken_passed : (t : TheTime) → read_time p end logical n ≡ Taken t → Passed × (time_at p ≡ t)
+  pub taken_passed : (t : TheTime) → read_time p end logical n ≡ Some t → Passed × (time_at p ≡ t)
   unfolding read_time
   taken_passed t = go (is_time_packet p end logical n) refl
     where
-      go : (b : Bool) → is_time_packet p end logical n ≡ b → cond b (Taken (time_at p)) ThrownAway ≡ Taken t → Passed × (time_at p ≡ t)
+      go : (b : Bool) → is_time_packet p end logical n ≡ b → cond b (Some (time_at p)) None ≡ Some t → Passed × (time_at p ≡ t)
       go true f e = (time_passed f, ap time_in e)
       go false f e = absurd (omega (arith, ap is_taken e))
 
   -- and what has not is thrown away
-  pub thrown_away : (Passed → ⊥) → read_time p end logical n ≡ ThrownAway
+  pub thrown_away : (Passed → ⊥) → read_time p end logical n ≡ None
   unfolding read_time
   thrown_away not = go (is_time_packet p end logical n) refl
     where
-      go : (b : Bool) → is_time_packet p end logical n ≡ b → cond b (Taken (time_at p)) ThrownAway ≡ ThrownAway
+      go : (b : Bool) → is_time_packet p end logical n ≡ b → cond b (Some (time_at p)) None ≡ None
       go true f = absurd (not (time_passed f))
       go false f = refl
 
   -- a time packet of bytes has a T below 2^56
-  pub taken_below : (t : TheTime) → Digits 256 p → read_time p end logical n ≡ Taken t → t.value < 2 ^ 56
+  pub taken_below : (t : TheTime) → Digits 256 p → read_time p end logical n ≡ Some t → t.value < 2 ^ 56
   taken_below t d e =
       let w = taken_passed t e in
       rw (ap (λ (s : TheTime). s.value) w.1) at (number_below p (4 + added_seconds p) 7 d (omega (arith, w.0.size)))
 
   -- one that is taken is addressed to the unit or to FE
-  pub taken_addressed : (t : TheTime) → read_time p end logical n ≡ Taken t → (get_or p 0 0 ≡ logical → ⊥) → (get_or p 0 0 ≡ 0xFE → ⊥) → ⊥
+  pub taken_addressed : (t : TheTime) → read_time p end logical n ≡ Some t → (get_or p 0 0 ≡ logical → ⊥) → (get_or p 0 0 ≡ 0xFE → ⊥) → ⊥
   taken_addressed t e unit all = ⊎_elim unit all (taken_passed t e).0.address
 
 -- ---- bytes that are worth nothing, one after the other

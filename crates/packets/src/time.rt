@@ -20,32 +20,26 @@ pub struct Time {
     pub value: u64,
 }
 
-#[derive(Clone, Copy)]
-pub enum TimeReading {
-    ThrownAway,
-    Taken(Time),
-}
-
-impl TimeReading {
-    // Document 01's number.
-    pub fn number(self) -> u8
-        ensures { result ≡ time_number_of self }
-    {
-        match self {
-            TimeReading::ThrownAway => 16,
-            TimeReading::Taken(_) => 19,
-        }
-    }
-}
-
-// Reads a packet as a time packet of the unit with that logical address and time number.
-pub fn read_time(packet: &[u8], end: End, logical: u8, number: u8) -> TimeReading
+// The time that a packet brings, read as a time packet of the unit with that logical address and time number. Anything else brings none, and is
+// thrown away.
+pub fn read_time(packet: &[u8], end: End, logical: u8, number: u8) -> Option<Time>
     ensures { result ≡ Time·read_time packet.now end logical number }
 {
-    if !is_time_packet(packet, end, logical, number) {
-        return TimeReading::ThrownAway;
+    if is_time_packet(packet, end, logical, number) {
+        Some(time_at(packet))
+    } else {
+        None
     }
-    TimeReading::Taken(time_at(packet))
+}
+
+// Document 01's number of what came of that: thrown away, or taken.
+pub fn time_number(read: Option<Time>) -> u8
+    ensures { result ≡ time_number_of read }
+{
+    match read {
+        None => 16,
+        Some(_) => 19,
+    }
 }
 
 // How many octets of seconds the second preamble octet adds, by its bits 1-2, and how many of fraction, by its bits 3-5 (004, 'Draft P-Field

@@ -6,18 +6,15 @@ use Rattle.packets.specs.Reading.{read_protocol, read_packet}
 use Rattle.packets.specs.Time.{time_number_of, read_time}
 use Rattle.packets.specs.declared.reading.End.TheVariants.{Eop}
 use Rattle.packets.specs.declared.reading.Refusal.TheVariants.{Incomplete, UnknownProtocol, ExtendedProtocol, Reply, HeaderCrc}
-use Rattle.packets.specs.declared.path.Path.{Path}
 use Rattle.packets.specs.declared.time.When.TheVariants.{AtOnce}
 use Rattle.packets.specs.declared.time.Time.{Time as TheTime}
-use Rattle.packets.specs.declared.time.TimeReading.{TimeReading}
-use Rattle.packets.specs.declared.time.TimeReading.TheVariants.{ThrownAway, Taken}
 use Rattle.unit.specs.Fate.{fate_number, fate_status}
 use Rattle.unit.specs.Counters.{counted_for}
 use Rattle.unit.specs.Clock.{after_time, after_code, after_ticks}
 use Rattle.unit.specs.Usable.{usable_unit, usable}
 use Rattle.unit.specs.Given.{Lent}
 use Rattle.unit.specs.Judge.{time_ruling, is_link, judged, fate_in}
-use Rattle.unit.specs.Calls.{done_by, take_time_code, take_ticks}
+use Rattle.unit.specs.Calls.{take_time_code, take_ticks, done}
 use Rattle.unit.specs.declared.fate.Offence.TheVariants.{DataCrc, PlainDeviceId}
 use Rattle.unit.specs.declared.fate.Fate.TheVariants.{TimeChanged, Unusable, NoSuchLink, NoRoom, Unread, TimeThrownAway, NotObeyed, Obeyed, TimeTaken, Replied}
 use Rattle.unit.specs.declared.judging.Ruling.{Ruling}
@@ -85,7 +82,7 @@ links = refl
 
 -- with 8 bytes of memory, and no room for a reply
 abbrev comes_to : TheUnit → ℕ → List ℕ → Ruling
-comes_to u link packet = (judged u (record { packet = packet; end = Eop; link = link }) (record { memory = 8; reply = 0 })).ruling
+comes_to u link packet = judged u (record { packet = packet; end = Eop; link = link }) (record { memory = 8; reply = 0 })
 
 -- the empty packet is incomplete; 2 goes before that, 1 before 2
 precedence :
@@ -98,16 +95,16 @@ precedence = (refl, refl, refl)
 -- ---- time packets
 
 -- 16 thrown away, 19 taken
-time_fates : (r : TimeReading) → fate_number (fate_in (time_ruling r)) ≡ time_number_of r
-time_fates ThrownAway = refl
-time_fates (Taken t) = refl
+time_fates : (r : Option TheTime) → fate_number (fate_in (time_ruling r)) ≡ time_number_of r
+time_fates None = refl
+time_fates (Some t) = refl
 
 -- 19: the time is changed, and what is lent is left
-time_taken : (t : TheTime) (path : Path) (u : TheUnit) (bytes : List ℕ) (link : ℕ) (lent : Lent)
-    → ((done_by (SetsTime t) path u bytes link lent).answer.unit.clock ≡ after_time u.clock t)
-    × ((done_by (SetsTime t) path u bytes link lent).memory ≡ lent.memory)
-    × ((done_by (SetsTime t) path u bytes link lent).reply ≡ lent.reply)
-time_taken t path u bytes link lent = (refl, refl, refl)
+time_taken : (t : TheTime) (u : TheUnit) (bytes : List ℕ) (link : ℕ) (lent : Lent)
+    → ((done (SetsTime t) u bytes link lent).answer.unit.clock ≡ after_time u.clock t)
+    × ((done (SetsTime t) u bytes link lent).memory ≡ lent.memory)
+    × ((done (SetsTime t) u bytes link lent).reply ≡ lent.reply)
+time_taken t u bytes link lent = (refl, refl, refl)
 
 -- to a unit with time number F3 and address 43
 times :

@@ -9,7 +9,6 @@ use Rattle.packets.specs.Reply.{carries_data, reply_length}
 use Rattle.packets.specs.declared.instruction.Kind.{Kind}
 use Rattle.packets.specs.declared.instruction.Kind.TheVariants.{Unused, Read, ReadModifyWrite, Write}
 use Rattle.packets.specs.declared.header.Header.{Header}
-use Rattle.packets.specs.Reading.{read_packet}
 use Rattle.packets.specs.declared.path.Path.{Path}
 use Rattle.packets.proofs.ReadingLaws.{header_whole}
 use Rattle.unit.specs.Some.{some}
@@ -193,11 +192,10 @@ module _ (u : TheUnit) (h : Header) (path : Path) (p : Arrived) (n : ℕ) (works
 
 -- so a judgement allows what it rules
 pub judged_allowed : (u : TheUnit) (p : Arrived) (sizes : Sizes)
-    → GrantedBy (judged u p sizes).ruling (judged u p sizes).path (length p.packet) sizes.memory sizes.reply
+    → GrantedBy (judged u p sizes) (length p.packet) sizes.memory sizes.reply
 judged_allowed u p sizes =
-    judged_is u p sizes (λ j. GrantedBy j.ruling j.path (length p.packet) sizes.memory sizes.reply) (λ e. tt) (λ e f. tt) (λ e f why g. tt)
+    judged_is u p sizes (λ r. GrantedBy r (length p.packet) sizes.memory sizes.reply) (λ e. tt) (λ e f. tt) (λ e f why g. tt)
     (λ e f g w. tt) (λ e f g t w. tt)
-    (λ e f h g.
-    let path = (read_packet p.packet u.number).path in
-    let whole = header_whole p.packet u.number h g in
-    (granted u h path p sizes.memory e whole sizes.reply, answerable u h path p sizes.memory e whole sizes.reply))
+    (λ e f c g.
+    let whole = header_whole p.packet u.number c.header g in
+    (granted u c.header c.path p sizes.memory e whole sizes.reply, answerable u c.header c.path p sizes.memory e whole sizes.reply))

@@ -4,7 +4,7 @@ use mathlib.Core.Bool.{false≢true}
 use Rattle.octets.specs.Numbers.{Digits}
 use Rattle.octets.proofs.PlaceLaws.{second_true}
 use Rattle.packets.specs.Path.{path_of}
-use Rattle.packets.specs.Reading.{read_packet}
+use Rattle.packets.specs.Reading.{read_packet, path_read}
 use Rattle.packets.specs.declared.path.Path.{Path}
 use Rattle.packets.specs.declared.time.When.{When}
 use Rattle.packets.specs.declared.time.When.TheVariants.{AtWrap, AtOnce}
@@ -189,7 +189,7 @@ usable_packet u p lent d =
     size = length lent.memory
 
     path : Path
-    path = (read_packet (as_read p).packet u.number).path
+    path = path_read (read_packet (as_read p).packet u.number)
 
     low : usable_unit u ≡ true → is_link u p.link ≡ true → p.link ≤ 31
     low k there =

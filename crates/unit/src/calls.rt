@@ -7,10 +7,11 @@ ghost use Rattle.unit.specs.Calls.{without_reply as Calls·without_reply, small_
 use crate::clock::Clock;
 use crate::decide::Plan;
 use crate::fate::Fate;
-use crate::judging::{Judgement, Ruling, Sizes, judge_read};
+use crate::judging::{Ruling, Sizes, judge_read};
+use crate::owner::Sender;
 use crate::unit::Unit;
 use crate::{act, clock};
-use packets::{End, Header, Path};
+use packets::{Command, End};
 
 // The unit after the call, what became of it, and how many bytes of the reply buffer are the reply.
 #[derive(Clone, Copy)]
@@ -36,8 +37,8 @@ pub fn take_packet(
         reply: reply.len(),
     };
     let bytes = packets::bare(packet);
-    let judgement = judge_read(unit, bytes, end, link, sizes);
-    carry_out(judgement, unit, bytes, link, memory, reply)
+    let ruling = judge_read(unit, bytes, end, link, sizes);
+    carry_out(ruling, unit, bytes, link, memory, reply)
 }
 
 // Takes a Time-Code: its low six bits.
@@ -84,32 +85,23 @@ fn ended(unit: Unit, fate: Fate) -> Answer
 
 // Does what a packet was judged to come to, whose bytes these are.
 fn carry_out(
-    judgement: Judgement,
+    ruling: Ruling,
     unit: Unit,
     bytes: &[u8],
     link: u8,
     memory: &mut [u8],
     reply: &mut [u8],
 ) -> Answer
-    requires { GrantedBy judgement.ruling judgement.path (length bytes.now) (length memory.old) (length reply.old) }
-    ensures { record { answer = result; memory = memory.new; reply = reply.new } ≡ done judgement unit bytes.now link (record { memory = memory.old; reply = reply.old }) }
+    requires { GrantedBy ruling (length bytes.now) (length memory.old) (length reply.old) }
+    ensures { record { answer = result; memory = memory.new; reply = reply.new } ≡ done ruling unit bytes.now link (record { memory = memory.old; reply = reply.old }) }
 {
-    match judgement.ruling {
+    match ruling {
         Ruling::Ends(fate) => ended(unit, fate),
         Ruling::SetsTime(time) => {
             let clock = clock::set_time(unit.clock, time);
             ended(Unit { clock, ..unit }, Fate::TimeTaken)
         }
-        Ruling::Planned(h, plan) => follow(
-            plan,
-            unit,
-            h,
-            judgement.path,
-            bytes,
-            link,
-            memory,
-            reply,
-        ),
+        Ruling::Planned(command, plan) => follow(plan, unit, command, bytes, link, memory, reply),
     }
 }
 
@@ -117,19 +109,23 @@ fn carry_out(
 fn follow(
     plan: Plan,
     unit: Unit,
-    h: Header,
-    path: Path,
+    command: Command,
     bytes: &[u8],
     link: u8,
     memory: &mut [u8],
     reply: &mut [u8],
 ) -> Answer
-    requires { GrantedTo plan h path (length bytes.now) (length memory.old) (length reply.old) }
-    ensures { record { answer = result; memory = memory.new; reply = reply.new } ≡ acted plan unit h path bytes.now link (record { memory = memory.old; reply = reply.old }) }
+    requires { GrantedTo plan command.header command.path (length bytes.now) (length memory.old) (length reply.old) }
+    ensures { record { answer = result; memory = memory.new; reply = reply.new } ≡ acted plan unit command.header command.path bytes.now link (record { memory = memory.old; reply = reply.old }) }
 {
-    act::respond(plan, unit, h, path, link, memory, reply);
+    act::respond(plan, unit, command, link, memory, reply);
     act::store(plan.action, bytes, memory);
-    let changed = act::change(unit, plan.action, h.initiator, path, link);
+    let sender = Sender {
+        initiator: command.header.initiator,
+        path: command.path,
+        link,
+    };
+    let changed = act::change(unit, plan.action, sender);
     Answer {
         unit: act::count(changed, plan.fate),
         fate: plan.fate,

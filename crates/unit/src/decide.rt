@@ -16,7 +16,7 @@ ghost use Rattle.unit.specs.Plan.{reply_count as Plan·reply_count, unanswered_f
 
 use crate::fate::{Fate, Offence, Status, status_byte};
 use crate::fields::{Named, swap_offence};
-use crate::owner::Owner;
+use crate::owner::{Owner, Sender};
 use crate::unit::Unit;
 use crate::windows::Windows;
 use octets::Octets;
@@ -134,7 +134,12 @@ impl Asked {
             return Err(Offence::NoSuchField);
         }
         offence_in(self.kind, named)?;
-        if !is_allowed(self.kind, owner, h.initiator, path, link) {
+        let sender = Sender {
+            initiator: h.initiator,
+            path,
+            link,
+        };
+        if !is_allowed(self.kind, owner, sender) {
             return Err(Offence::NotOwner);
         }
         Ok(())
@@ -185,14 +190,14 @@ fn offence_in(kind: Kind, named: Named) -> Status
 }
 
 // Whether the sender may: anyone reads; the owner writes; the owner swaps, and anyone where there is none.
-fn is_allowed(kind: Kind, owner: Owner, initiator: u8, path: Path, link: u8) -> bool
-    ensures { result ≡ Decide·is_allowed kind owner initiator path link }
+fn is_allowed(kind: Kind, owner: Owner, sender: Sender) -> bool
+    ensures { result ≡ Decide·is_allowed kind owner sender.initiator sender.path sender.link }
 {
     match kind {
         Kind::Unused => true,
         Kind::Read => true,
-        Kind::ReadModifyWrite => (owner.device == 0) | owner.is(initiator, path, link),
-        Kind::Write => owner.is(initiator, path, link),
+        Kind::ReadModifyWrite => (owner.device == 0) | owner.is(sender),
+        Kind::Write => owner.is(sender),
     }
 }
 

@@ -24,7 +24,7 @@ pub use clock::{Clock, Elapsed};
 pub use decide::{Action, Plan};
 pub use fate::{Fate, Offence, Status, status_byte};
 pub use fields::Fields;
-pub use judging::{Judgement, Ruling, Sizes, judge};
+pub use judging::{Ruling, Sizes, judge};
 pub use owner::Owner;
 pub use unit::Unit;
 pub use windows::{Window, Windows};

@@ -1,6 +1,6 @@
 // Time packets.
 use crate::show;
-use packets::{End, TimeReading, When};
+use packets::{End, Time, When};
 
 // The logical address and the time number of the unit that reads them.
 const ADDRESS: u8 = 0x43;
@@ -12,12 +12,12 @@ pub(crate) fn read(name: &[u8], packet: &[u8], end: End) {
     answer(name, packets::read_time(packet, end, ADDRESS, NUMBER));
 }
 
-fn answer(name: &[u8], read: TimeReading) {
+fn answer(name: &[u8], read: Option<Time>) {
     show::text(name);
     show::text(b": ");
-    io::print_decimal(1, read.number() as u64);
+    io::print_decimal(1, packets::time_number(read) as u64);
     match read {
-        TimeReading::Taken(t) => {
+        Some(t) => {
             show::number(b", epoch ", t.epoch as u64, 2);
             let when = t.when;
             match when {
@@ -26,7 +26,7 @@ fn answer(name: &[u8], read: TimeReading) {
             }
             io::print_hex(1, t.value, 14);
         }
-        TimeReading::ThrownAway => {}
+        None => {}
     }
     show::text(b"\n");
 }

@@ -1,19 +1,19 @@
--- `unit::act::answer` meets its contract: the data of each action, action by action, gathered, or handed to the writer of replies.
+-- `unit::act::Reply::answer` meets its contract: the data of each action, action by action, gathered, or handed to the writer of replies.
 use Rattle.std.proofs.Common.{arith}
 use Rattle.std.proofs.lemmas.Grind.{common_steps}
 use Rattle.unit.specs.Act.{data_for}
-use Rattle.unit.proofs.act.answer.Goals as goal
+use Rattle.unit.proofs.act.Reply.answer.Goals as goal
 
-pub answer_memory-requires : goal.answer_memory-requires
-answer_memory-requires c = grind (arith, common_steps)
+pub write_memory-requires : goal.write_memory-requires
+write_memory-requires c = grind (arith, common_steps)
 
 pub byte_at-byte-requires : goal.byte_at-byte-requires
 byte_at-byte-requires c =
     let w = rw c.in-RepeatByte.is at c.requires in
     w.0
 
-pub answer_fields-requires : goal.answer_fields-requires
-answer_fields-requires c =
+pub shown-bytes-requires : goal.shown-bytes-requires
+shown-bytes-requires c =
     let w = rw c.in-ReadFields.is at c.requires in
     w.0
 
@@ -32,9 +32,9 @@ returns-in-RepeatByte c =
 
 pub returns-in-ReadFields : goal.returns-in-ReadFields
 unfolding data_for
-returns-in-ReadFields c = rw c.in-ReadFields.is c.answer_fields.ensures
+returns-in-ReadFields c = rw (c.in-ReadFields.is, ← c.shown-bytes.ensures) c.write-in-ReadFields.ensures
 
 pub returns-in-Swap : goal.returns-in-Swap
 unfolding data_for
 returns-in-Swap c =
-    rw (c.in-Swap.is, ← c.bytes4-old.ensures) c.write_reply.ensures.leaves
+    rw (c.in-Swap.is, ← c.bytes4.ensures) c.write-in-Swap.ensures
