@@ -14,6 +14,6 @@ pub use ccsds::{Unsent, ccsds_number, read_ccsds, space_packet, write_ccsds};
 pub use header::Header;
 pub use instruction::{Instruction, Kind};
 pub use path::Path;
-pub use reading::{End, Packet, Reading, Refusal, bare, read_packet};
+pub use reading::{Command, End, Packet, Refusal, bare, read_packet};
 pub use reply::{data_place, reply_length, write_repeated_reply, write_reply, write_reply_around};
 pub use time::{Time, When, read_time, time_number};

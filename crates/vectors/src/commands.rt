@@ -1,6 +1,6 @@
 // Packets that are read, and replies that are written.
 use crate::show;
-use packets::{Header, Path, Reading};
+use packets::{Command, Header, Packet, Path};
 
 // The time number of the unit that would read them.
 const NUMBER: u8 = 0xf0;
@@ -15,16 +15,13 @@ pub(crate) fn bare(name: &[u8], packet: &[u8]) {
 // A packet, read to its parts and its path, or to the number of its refusal.
 pub(crate) fn read(name: &[u8], packet: &[u8]) {
     show::text(name);
-    let p = packets::read_packet(packet, NUMBER);
-    let path = p.path;
-    let reading = p.reading;
-    match reading {
-        Reading::Command(h) => {
-            parts(h);
-            show_path(path);
+    match packets::read_packet(packet, NUMBER) {
+        Ok(Packet::Command(c)) => {
+            parts(c.header);
+            show_path(c.path);
         }
-        Reading::Refused(why) => fate(why.number()),
-        Reading::Time => show::text(b": time\n"),
+        Err(why) => fate(why.number()),
+        Ok(Packet::Time) => show::text(b": time\n"),
     }
 }
 
@@ -77,19 +74,22 @@ fn show_last(bytes: &[u8], n: usize) {
 
 // The path that a command is read to.
 pub(crate) fn address(name: &[u8], packet: &[u8]) {
-    let read = packets::read_packet(packet, NUMBER);
     show::text(name);
-    show_path(read.path);
+    show_path(path_of(packet));
+}
+
+// The path of a command. Anything else has none.
+fn path_of(packet: &[u8]) -> Path {
+    match packets::read_packet(packet, NUMBER) {
+        Ok(Packet::Command(c)) => c.path,
+        Ok(Packet::Time) | Err(_) => Path::none(),
+    }
 }
 
 // Whether two commands have one path.
 pub(crate) fn same(name: &[u8], first: &[u8], second: &[u8]) {
-    let a = packets::read_packet(first, NUMBER);
-    let b = packets::read_packet(second, NUMBER);
-    let path = a.path;
-    let other = b.path;
     show::text(name);
-    if path.same(other) {
+    if path_of(first) == path_of(second) {
         show::text(b": one\n");
     } else {
         show::text(b": two\n");
@@ -98,70 +98,56 @@ pub(crate) fn same(name: &[u8], first: &[u8], second: &[u8]) {
 
 // The reply to a command, written into a buffer of `room` bytes (at most 400), each of them ee before.
 pub(crate) fn reply(name: &[u8], packet: &[u8], status: u8, room: usize, bytes: &[u8]) {
-    let p = packets::read_packet(packet, NUMBER);
-    let path = p.path;
-    let reading = p.reading;
     let mut out = [0xeeu8; 400];
-    match reading {
-        Reading::Command(h) => reply_into(name, path, h, status, bytes, &mut out[0..room % 401]),
-        Reading::Refused(_) => show::text(b"no command\n"),
-        Reading::Time => show::text(b"no command\n"),
+    match packets::read_packet(packet, NUMBER) {
+        Ok(Packet::Command(c)) => reply_into(name, c, status, bytes, &mut out[0..room % 401]),
+        Ok(Packet::Time) | Err(_) => show::text(b"no command\n"),
     }
 }
 
-fn reply_into(name: &[u8], path: Path, h: Header, status: u8, bytes: &[u8], out: &mut [u8]) {
-    let did = packets::write_reply(path, h, status, bytes, out);
+fn reply_into(name: &[u8], c: Command, status: u8, bytes: &[u8], out: &mut [u8]) {
+    let did = packets::write_reply(c.path, c.header, status, bytes, out);
     show::outcome(name, did, out);
 }
 
 // The same, where the data are one byte, `count` times over.
 pub(crate) fn repeated(name: &[u8], packet: &[u8], status: u8, room: usize, byte: u8, count: u32) {
-    let p = packets::read_packet(packet, NUMBER);
-    let path = p.path;
-    let reading = p.reading;
     let mut out = [0xeeu8; 400];
-    match reading {
-        Reading::Command(h) => repeated_into(
+    match packets::read_packet(packet, NUMBER) {
+        Ok(Packet::Command(c)) => repeated_into(
             name,
-            path,
-            h,
+            c,
             status,
             byte,
             count,
             &mut out[0..room % 401],
         ),
-        Reading::Refused(_) => show::text(b"no command\n"),
-        Reading::Time => show::text(b"no command\n"),
+        Ok(Packet::Time) | Err(_) => show::text(b"no command\n"),
     }
 }
 
 fn repeated_into(
     name: &[u8],
-    path: Path,
-    h: Header,
+    c: Command,
     status: u8,
     byte: u8,
     count: u32,
     out: &mut [u8],
 ) {
-    let did = packets::write_repeated_reply(path, h, status, byte, count, out);
+    let did = packets::write_repeated_reply(c.path, c.header, status, byte, count, out);
     show::outcome(name, did, out);
 }
 
 // The reply around data that are in their place already: `count` bytes of the buffer itself.
 pub(crate) fn around(name: &[u8], packet: &[u8], status: u8, room: usize, count: u32) {
-    let p = packets::read_packet(packet, NUMBER);
-    let path = p.path;
-    let reading = p.reading;
     let mut out = [0xeeu8; 400];
-    match reading {
-        Reading::Command(h) => around_into(name, path, h, status, count, &mut out[0..room % 401]),
-        Reading::Refused(_) => show::text(b"no command\n"),
-        Reading::Time => show::text(b"no command\n"),
+    match packets::read_packet(packet, NUMBER) {
+        Ok(Packet::Command(c)) => around_into(name, c, status, count, &mut out[0..room % 401]),
+        Ok(Packet::Time) | Err(_) => show::text(b"no command\n"),
     }
 }
 
-fn around_into(name: &[u8], path: Path, h: Header, status: u8, count: u32, out: &mut [u8]) {
-    let did = packets::write_reply_around(path, h, status, count, out);
+fn around_into(name: &[u8], c: Command, status: u8, count: u32, out: &mut [u8]) {
+    let did = packets::write_reply_around(c.path, c.header, status, count, out);
     show::outcome(name, did, out);
 }
