@@ -2,14 +2,16 @@
 use mathlib.Core.Path.{◌≡◌, refl, sym, ap, ap₂, ◌∙◌}
 use mathlib.Core.Bool.{Bool, true, false, cond}
 use mathlib.Core.List.{List, [], ◌∷◌, ◌++◌, map}
-use Prim.Native.Nat.{ℕ, suc, ◌+◌, ◌-◌, ◌*◌, ◌%◌, ◌^◌, ◌<◌, ◌≤◌}
+use Prim.Native.Nat.{ℕ, zero, suc, ◌+◌, ◌-◌, ◌*◌, ◌%◌, ◌^◌, ◌<◌, ◌≤◌}
 use native.Mathlib.Omega.{arith}
 use native.Mathlib.Nat.{add-zero, zero-add, mul_assoc, pow-succ'}
 use native.Mathlib.Numerals.{add-one}
 use borrow.Author.Tests.{eq-eqb, ne_eqb}
 use lib.Dec.{ltb}
 use lib.ListN.{length, get_or, set, take, drop, length-append, length-map, length-take, length-drop}
-use lib.Seq.{paste, paste-suc, drop-cons, take-suc, drop-drop, get_or-drop}
+use Rattle.std.proofs.Common.{fold}
+use Rattle.std.proofs.lemmas.List.Sums.{fold-append}
+use lib.Seq.{take-length, paste, paste-suc, drop-cons, take-suc, drop-drop, get_or-drop}
 use Rattle.octets.specs.Places.{placed}
 use Rattle.octets.specs.Numbers.{worth}
 use Rattle.octets.proofs.PlaceLaws.{take_min}
@@ -47,12 +49,29 @@ worth_more (b ∷ s) c =
     length-map (s ++ (c ∷ [])) digit_of ∙ length-append s (c ∷ []) ∙ add-one (length s) ∙ ap suc (sym (length-map s digit_of)) in
     rw (long, pow-succ', ← mul_assoc) (omega arith)
 
-pub number_next : (s : List ℕ) (i : ℕ) → i < length s → number_in (take i s) % 2 ^ 60 * 16 + digit_of (get_or s i 0) ≡ number_in (take (suc i) s)
+-- a digit behind a number, as far as 64 bits hold it
+abbrev pub onto : ℕ → ℕ → ℕ
+onto n c = n % 2 ^ 60 * 16 + digit_of c
+
+number_next : (s : List ℕ) (i : ℕ) → i < length s → onto (number_in (take i s)) (get_or s i 0) ≡ number_in (take (suc i) s)
 unfolding number_in
 number_next s i h =
     let more = worth_more (take i s) (get_or s i 0) in
     let small = digit_small (get_or s i 0) in
     rw (take-suc s i 0 h, more) (omega arith)
+
+number_folds : (s : List ℕ) (i : ℕ) → i ≤ length s → fold onto 0 (take i s) ≡ number_in (take i s)
+unfolding number_in
+number_folds s zero h = refl
+number_folds s (suc i) h =
+    ap (fold onto 0) (take-suc s i 0 (omega arith))
+    ∙ fold-append onto 0 (take i s) (get_or s i 0 ∷ [])
+    ∙ ap (λ (n : ℕ). onto n (get_or s i 0)) (number_folds s i (omega arith))
+    ∙ number_next s i (omega arith)
+
+-- so the number that digits say is each put behind those before it
+pub number_fold : (s : List ℕ) → fold onto 0 s ≡ number_in s
+number_fold s = rw (take-length s) at (number_folds s (length s) (omega arith))
 
 -- ---- bytes from a place on
 

@@ -10,7 +10,7 @@ use crate::fields;
 pub fn number(s: &[u8]) -> u64
     ensures { result ≡ number_in (field_of s.now) }
 {
-    value(fields::field(s))
+    fields::field(s).iter().fold(0, |n, c| onto(n, *c))
 }
 
 // Its lowest byte.
@@ -44,19 +44,6 @@ pub fn bytes(s: &[u8], out: &mut [u8]) -> usize
     n
 }
 
-// The loop of number, over its digits.
-fn value(s: &[u8]) -> u64
-    ensures { result ≡ number_in s.now }
-{
-    let mut n = 0;
-    let mut i = 0;
-    while i < s.len() {
-        n = onto(n, s[i]);
-        i += 1;
-    }
-    n
-}
-
 // A digit behind a number. The number's highest digit goes where there are sixteen.
 fn onto(n: u64, c: u8) -> u64
     ensures { result ≡ n % 2 ^ 60 * 16 + digit_of c }
@@ -75,7 +62,8 @@ fn digit(c: u8) -> u8
     ensures small { result ≤ 15 }
 {
     if c < b'a' {
-        return c % 16;
+        c % 16
+    } else {
+        (c - b'a') % 6 + 10
     }
-    (c - b'a') % 6 + 10
 }

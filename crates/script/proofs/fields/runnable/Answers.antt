@@ -1,9 +1,9 @@
--- `script::fields::runnable` meets its contract: the definition asks the same.
-use borrow.Author.Rules.{rules}
+-- `script::fields::runnable` meets its contract: what comes behind the last line end stands, from the back, before the first.
+use mathlib.Core.Path.{refl, ◌∙◌}
+use Rattle.script.specs.Fields.{line_end}
+use Rattle.script.proofs.FieldLaws.{size_from_back}
 use Rattle.script.proofs.fields.runnable.Goals as goal
 
-pub returns-then-last : goal.returns-then-last
-returns-then-last c = record { answers = rw c.if-last.true; inside = search rules }
-
-pub returns : goal.returns
-returns c = record { answers = rw c.if-last.false c.whole_lines.ensures.answers; inside = search rules }
+pub returns-clause-answers : goal.returns-clause-answers
+returns-clause-answers c =
+    rw (c.if-last.false, c.unwrap_or.ensures ∙ size_from_back line_end c.args.s.now _ c.place_from_back.ensures) refl
