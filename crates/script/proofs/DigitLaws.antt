@@ -11,7 +11,7 @@ use lib.Dec.{ltb}
 use lib.ListN.{length, get_or, set, take, drop, length-append, length-map, length-take, length-drop}
 use Rattle.std.proofs.Common.{fold}
 use Rattle.std.proofs.lemmas.List.Sums.{fold-append}
-use lib.Seq.{take-length, paste, paste-suc, drop-cons, take-suc, drop-drop, get_or-drop}
+use lib.Seq.{take_all, take-length, paste, paste-suc, take-suc, drop-drop, get_or-drop}
 use Rattle.octets.specs.Places.{placed}
 use Rattle.octets.specs.Numbers.{worth}
 use Rattle.octets.proofs.PlaceLaws.{take_min}
@@ -73,35 +73,28 @@ number_folds s (suc i) h =
 pub number_fold : (s : List ℕ) → fold onto 0 s ≡ number_in s
 number_fold s = rw (take-length s) at (number_folds s (length s) (omega arith))
 
--- ---- bytes from a place on
-
-few : (l : List ℕ) → length l ≤ 1 → bytes_in l ≡ []
-unfolding bytes_in
-few [] h = refl
-few (a ∷ []) h = refl
-few (a ∷ b ∷ l) h = absurd (omega arith)
+-- ---- the first bytes of what is left
 
 -- fewer than two digits are left
-pub bytes_end : (s : List ℕ) (i : ℕ) → length s - i ≤ 1 → bytes_in (drop i s) ≡ []
-bytes_end s i h = few (drop i s) (simp length-drop h)
+pub bytes_end : (l : List ℕ) → length l < 2 → bytes_in l ≡ []
+unfolding bytes_in
+bytes_end [] h = refl
+bytes_end (a ∷ []) h = refl
+bytes_end (a ∷ b ∷ l) h = absurd (omega arith)
 
 -- two bytes are left at least: the first is a space, or both are digits
-module _ (s : List ℕ) (i : ℕ) (h : 1 < length s - i) where
-  first : drop i s ≡ get_or s i 0 ∷ drop (i + 1) s
-  first = drop-cons s i 0 (omega arith) ∙ ap (λ (k : ℕ). get_or s i 0 ∷ drop k s) (sym (add-one i))
+pub bytes_space : (l : List ℕ) → 2 ≤ length l → get_or l 0 0 ≡ space → bytes_in l ≡ bytes_in (take (length l - 1) (drop 1 l))
+unfolding bytes_in
+bytes_space [] h e = absurd (omega arith)
+bytes_space (a ∷ []) h e = absurd (omega arith)
+bytes_space (a ∷ b ∷ l) h e = rw (take_all (length (a ∷ b ∷ l) - 1) (b ∷ l) (omega arith), eq-eqb a space e) refl
 
-  second : drop (i + 1) s ≡ get_or s (i + 1) 0 ∷ drop (i + 2) s
-  second =
-      let e : suc (i + 1) ≡ i + 2 = omega arith in
-      drop-cons s (i + 1) 0 (omega arith) ∙ ap (λ (k : ℕ). get_or s (i + 1) 0 ∷ drop k s) e
-
-  pub bytes_space : get_or s i 0 ≡ space → bytes_in (drop i s) ≡ bytes_in (drop (i + 1) s)
-  unfolding bytes_in
-  bytes_space e = rw (first, second, eq-eqb (get_or s i 0) space e)
-
-  pub bytes_pair : (get_or s i 0 ≡ space → ⊥) → bytes_in (drop i s) ≡ pair_of (get_or s i 0) (get_or s (i + 1) 0) ∷ bytes_in (drop (i + 2) s)
-  unfolding bytes_in
-  bytes_pair e = rw (first, second, ne_eqb (get_or s i 0) space e)
+pub bytes_pair : (l : List ℕ) → 2 ≤ length l → (get_or l 0 0 ≡ space → ⊥)
+    → bytes_in l ≡ pair_of (get_or l 0 0) (get_or l 1 0) ∷ bytes_in (take (length l - 2) (drop 2 l))
+unfolding bytes_in
+bytes_pair [] h e = absurd (omega arith)
+bytes_pair (a ∷ []) h e = absurd (omega arith)
+bytes_pair (a ∷ b ∷ l) h e = rw (take_all (length (a ∷ b ∷ l) - 2) l (omega arith), ne_eqb a space e) refl
 
 -- ---- one byte after the other
 

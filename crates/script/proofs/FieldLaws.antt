@@ -1,8 +1,8 @@
 -- Laws of lines and fields: what stands before a byte is a first part, and how it goes on from a place of a list.
 use mathlib.Core.Path.{◌≡◌, refl, ap}
 use mathlib.Core.Bool.{Bool, true, false, cond}
-use mathlib.Core.List.{List, [], ◌∷◌, reverse, reverse-append}
-use Prim.Native.Nat.{ℕ, suc, ◌+◌, ◌<◌, ◌≤◌}
+use mathlib.Core.List.{List, [], ◌∷◌, reverse}
+use Prim.Native.Nat.{ℕ, ◌+◌, ◌<◌, ◌≤◌}
 use native.Mathlib.Omega.{arith}
 use borrow.Author.Tests.{lt-ltb, le-ltb}
 use Rattle.std.proofs.Common.{◌==◌, position, unwrap_or, Option, Some, None, sym, ◌∙◌}
@@ -12,9 +12,8 @@ use Rattle.std.proofs.lemmas.List.Recursion.{is_position_or_len}
 use lib.Dec.{eqb, ltb}
 use native.Mathlib.Decide.{dec_lt}
 use native.Mathlib.Nat.{lt_of_not-le}
-use lib.ListN.{length-take, length, get_or, take, drop, drop_of_length-le}
-use lib.Seq.{drop-cons, take-suc, length-take-le}
-use Rattle.script.specs.Fields.{up_to, line_end, field_of, rest_of, whole_lines, runnable}
+use lib.ListN.{length-take, length, take}
+use Rattle.script.specs.Fields.{up_to, field_of, rest_of, whole_lines, runnable}
 
 -- `a|b` is the field `a` with `b` behind it; of `a`, a line end and `b`, two bytes are whole lines
 pub a_field : field_of (0x61 ∷ 0x7c ∷ 0x62 ∷ []) ≡ 0x61 ∷ []

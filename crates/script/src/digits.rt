@@ -27,18 +27,18 @@ pub fn bytes(s: &[u8], out: &mut [u8]) -> usize
     ensures inside { result ≤ length out.new }
     ensures leaves { out.new ≡ placed 0 (take (length out.old) (bytes_in s.now)) out.old }
 {
-    let mut i = 0;
+    let mut left = s;
     let mut n = 0;
-    while 1 < s.len() - i {
-        if s[i] == b' ' {
-            i += 1;
+    while let [a, b, more @ ..] = left {
+        if *a == b' ' {
+            left = &left[1..];
         } else {
             if out.len() <= n {
                 return n;
             }
-            out[n] = pair(s[i], s[i + 1]);
+            out[n] = pair(*a, *b);
             n += 1;
-            i += 2;
+            left = more;
         }
     }
     n

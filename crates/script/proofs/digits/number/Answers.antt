@@ -3,7 +3,6 @@ use mathlib.Core.Path.{◌≡◌, ap, ◌∙◌}
 use borrow.Author.Rules.{rules}
 use Rattle.std.proofs.Common.{fold}
 use Rattle.script.specs.Digits.{number_in}
-use Rattle.script.specs.Fields.{field_of}
 use Rattle.script.proofs.DigitLaws.{onto, number_fold}
 use Rattle.script.proofs.digits.number.Goals as goal
 
