@@ -85,6 +85,7 @@ fn ended(unit: Unit, fate: Fate) -> Answer
 }
 
 // Does what was judged that a packet comes to.
+// Kept: memory and reply buffer apart; handed on in a struct, what `follow` left of them was no longer tied to what this leaves (`returns-in-Planned`).
 fn carry_out(
     ruling: Ruling,
     unit: Unit,
