@@ -3,15 +3,14 @@ use Rattle.std.specs.Prelude.{Option, Some, None}
 use mathlib.Core.Path.{◌≡◌, refl, sym, ap, ◌∙◌}
 use mathlib.Core.Bool.{Bool, true, false, cond, ◌&&◌, ◌||◌, or-true, false≢true}
 use mathlib.Core.Logic.{◌⊎◌, inl, inr, ⊎_elim}
-use mathlib.Core.List.{List}
-use Prim.Native.Nat.{ℕ, suc, ◌+◌, ◌*◌, ◌^◌, ◌<◌}
+use mathlib.Core.List.{List, [], ◌∷◌}
+use Prim.Native.Nat.{ℕ, zero, suc, ◌+◌, ◌*◌, ◌^◌, ◌<◌}
 use native.Mathlib.Omega.{arith}
 use native.Mathlib.Nat.{zero-mul, zero-add, mul-pos}
-use native.Mathlib.Numerals.{add-one}
-use borrow.Author.Tests.{eqb-true, eq-eqb}
+use borrow.Author.Tests.{eqb-true, eq-eqb, ne_eqb}
 use lib.Dec.{eqb}
-use lib.ListN.{length, get_or, drop}
-use lib.Seq.{drop-cons}
+use lib.ListN.{length, get_or}
+use Rattle.std.specs.List.{list_all}
 use Rattle.octets.specs.Crc.{crc}
 use Rattle.octets.specs.Places.{part}
 use Rattle.octets.specs.Numbers.{number, Digits}
@@ -134,18 +133,16 @@ module _ (p : List ℕ) (end : End) (logical n : ℕ) where
   pub taken_addressed : (t : TheTime) → read_time p end logical n ≡ Some t → (get_or p 0 0 ≡ logical → ⊥) → (get_or p 0 0 ≡ 0xFE → ⊥) → ⊥
   taken_addressed t e unit all = ⊎_elim unit all (taken_passed t e).0.address
 
--- ---- bytes that are worth nothing, one after the other
+-- ---- bytes that are worth nothing are those that are all zero
 
-module _ (s : List ℕ) (i : ℕ) (there : i < length s) where
-  pub nothing_goes_on : get_or s i 0 ≡ 0 → number (drop i s) ≡ number (drop (i + 1) s)
-  nothing_goes_on e = ap number (drop-cons s i 0 there) ∙ rw (e, add-one i) (simp (zero-mul, zero-add))
-
-  pub nothing_ends : (get_or s i 0 ≡ 0 → ⊥) → number (drop i s) ≡ 0 → ⊥
-  nothing_ends differs z =
-      let d = get_or s i 0 in
-      let weight = 256 ^ length (drop (suc i) s) in
-      let more : 0 < d * weight = mul-pos (omega (arith, differs)) (pow_some 256 (omega arith) (length (drop (suc i) s))) in
-      omega (arith, more, sym (ap number (drop-cons s i 0 there)) ∙ z)
+pub zeros_worth : (s : List ℕ) → list_all (λ (b : ℕ). eqb b 0) s ≡ eqb (number s) 0
+zeros_worth [] = refl
+zeros_worth (zero ∷ s) = simp (zero-mul, zero-add) (zeros_worth s)
+zeros_worth (suc b ∷ s) =
+    let some : eqb (suc b) 0 ≡ false = ne_eqb (suc b) 0 (λ z. omega (arith, z)) in
+    let weight = 256 ^ length s in
+    let more : 0 < suc b * weight = mul-pos (omega arith) (pow_some 256 (omega arith) (length s)) in
+    rw some (sym (ne_eqb (suc b * weight + number s) 0 (λ z. omega (arith, more, z))))
 
 -- ---- when the time is to be taken, as a case and as its number
 

@@ -1,5 +1,5 @@
 // The path of a reply (document 01, 'Reply' and 'Owner'; 001, 5.1.6).
-ghost use Rattle.std.specs.Prelude.{◌≡◌, [], ◌≤◌, length};
+ghost use Rattle.std.specs.Prelude.{◌≡◌, [], ◌≤◌, not, ◌==◌, length, position};
 ghost use Rattle.packets.specs.Path.{path_of, kept, path_bytes, same_path};
 
 // A path as it is kept: the last `count` of the bytes; what stands before them is zero.
@@ -56,13 +56,15 @@ pub(crate) fn keep(address: &[u8]) -> Path
 fn path_count(address: &[u8]) -> usize
     ensures { result ≡ length (path_of address.now) }
 {
-    let n = address.len();
-    let mut zeros = 0;
-    while 1 < n - zeros {
-        if address[zeros] != 0 {
-            return n - zeros;
-        }
-        zeros += 1;
+    match leading_zeros(address) {
+        Some(zeros) => address.len() - zeros,
+        None => address.len().min(1),
     }
-    n - zeros
+}
+
+// How many zeros stand before the first byte that is none.
+fn leading_zeros(address: &[u8]) -> Option<usize>
+    ensures { result ≡ position (λ b. not (b == 0)) address.now }
+{
+    address.iter().position(|&byte| byte != 0)
 }

@@ -1,6 +1,6 @@
 // The time packet (document 01, 'Time', with request 12 of document 02; 004, 'CCSDS Unsegmented Code Transfer Protocol Format').
-ghost use Rattle.std.specs.Prelude.{◌≡◌, ◌+◌, ◌≤◌, eqb, length};
-ghost use Rattle.octets.specs.Numbers.{number as number_of};
+ghost use Rattle.std.specs.Prelude.{◌≡◌, ◌+◌, ◌≤◌, ◌==◌, length};
+ghost use Rattle.std.specs.List.{list_all};
 ghost use Rattle.packets.specs.Time.{time_number_of, when_of as Time·when_of, octet_bits, added_seconds as Time·added_seconds, is_time_packet as Time·is_time_packet, time_at as Time·time_at, read_time as Time·read_time};
 
 use crate::reading::End;
@@ -68,7 +68,7 @@ fn is_time_packet(p: &[u8], end: End, logical: u8, number: u8) -> bool
         return false;
     }
     let eop = end == End::Eop;
-    let zeros = worth_nothing(&p[4..4 + seconds]);
+    let zeros = are_zeros(&p[4..4 + seconds]);
     let sum = octets::crc_of(p);
     eop & ((p[0] == logical) | (p[0] == 0xFE))
         & (p[1] == number)
@@ -78,18 +78,11 @@ fn is_time_packet(p: &[u8], end: End, logical: u8, number: u8) -> bool
         & (sum == 0)
 }
 
-// Whether bytes are worth nothing.
-fn worth_nothing(s: &[u8]) -> bool
-    ensures { result ≡ eqb (number_of s.now) 0 }
+// Whether bytes are all zero, and so worth nothing.
+fn are_zeros(s: &[u8]) -> bool
+    ensures { result ≡ list_all (λ b. b == 0) s.now }
 {
-    let mut i = 0;
-    while i < s.len() {
-        if s[i] != 0 {
-            return false;
-        }
-        i += 1;
-    }
-    true
+    s.iter().all(|&byte| byte == 0)
 }
 
 // What a time packet says of the time. T is behind the seconds that were added.

@@ -17,6 +17,7 @@ use crate::memory::{gather, scatter};
 use crate::owner::Sender;
 use crate::unit::Unit;
 use crate::{clock, fields};
+use octets::Octets;
 use packets::Command;
 
 // ---- the reply
@@ -63,34 +64,26 @@ impl Reply {
                 self.write_memory(memory, at, count, out);
             }
             Action::RepeatByte(at, count) => {
+                let Command { header, path } = self.command;
                 let byte = byte_at(memory, at, count);
-                packets::write_repeated_reply(
-                    self.command.path,
-                    self.command.header,
-                    self.status,
-                    byte,
-                    count,
-                    out,
-                );
+                packets::write_repeated_reply(path, header, self.status, byte, count, out);
             }
             Action::ReadFields(address, count) => {
                 let bytes = shown(unit, link, address, count);
                 self.write(&bytes[..4 * count], out);
             }
-            Action::Swap(_, _) => self.write(&octets::bytes4(unit.owner.device), out),
+            Action::Swap(_, _) => {
+                let device: [u8; 4] = unit.owner.device.to_octets();
+                self.write(&device, out);
+            }
         }
     }
 
     fn write(self, bytes: &[u8], out: &mut [u8])
         ensures { out.new ≡ replied self.command.path self.command.header self.status bytes.now out.old }
     {
-        packets::write_reply(
-            self.command.path,
-            self.command.header,
-            self.status,
-            bytes,
-            out,
-        );
+        let Command { header, path } = self.command;
+        packets::write_reply(path, header, self.status, bytes, out);
     }
 
     // Bytes of memory are gathered into their place in the reply, which is then written around them.
@@ -98,20 +91,9 @@ impl Reply {
         requires { (at + count ≤ length memory.now) × Gatherable count self.command.header self.command.path self.status (length out.old) }
         ensures { out.new ≡ replied self.command.path self.command.header self.status (part at count memory.now) out.old }
     {
-        gather(
-            memory,
-            at,
-            count,
-            out,
-            packets::data_place(self.command.path),
-        );
-        packets::write_reply_around(
-            self.command.path,
-            self.command.header,
-            self.status,
-            count as u32,
-            out,
-        );
+        let Command { header, path } = self.command;
+        gather(memory, at, count, out, packets::data_place(path));
+        packets::write_reply_around(path, header, self.status, count as u32, out);
     }
 }
 

@@ -126,14 +126,7 @@ pub(crate) fn repeated(name: &[u8], packet: &[u8], status: u8, room: usize, byte
     }
 }
 
-fn repeated_into(
-    name: &[u8],
-    c: Command,
-    status: u8,
-    byte: u8,
-    count: u32,
-    out: &mut [u8],
-) {
+fn repeated_into(name: &[u8], c: Command, status: u8, byte: u8, count: u32, out: &mut [u8]) {
     let did = packets::write_repeated_reply(c.path, c.header, status, byte, count, out);
     show::outcome(name, did, out);
 }
