@@ -1,5 +1,6 @@
 -- Demand 1 leaves no room: 1, 2 and 3 are given exactly where they are due, each other row says how the packet was read and which status it is due, and with that
 -- all that it leaves. So the rows together are a function, `due`; what meets them is its value; and ours meets them too.
+use Rattle.std.proofs.Common.{Ok, Err}
 use Rattle.std.specs.Prelude.{Result, Ok, Err}
 use Rattle.packets.specs.declared.time.Time.{Time as TheTime}
 use Rattle.std.specs.Prelude.{Option, Some, None}
@@ -18,19 +19,16 @@ use Rattle.packets.specs.Header.{kind_in}
 use Rattle.packets.specs.Reading.{number_of}
 use Rattle.packets.specs.Time.{read_time}
 use Rattle.packets.specs.declared.header.Header.{Header}
+use Rattle.unit.specs.Fate.{Status, is_success, fate_number}
 use Rattle.packets.specs.declared.reading.Packet.{Packet}
 use Rattle.packets.specs.declared.reading.Refusal.{Refusal}
 use Rattle.packets.specs.declared.reading.Packet.TheVariants.{Time, Command}
-use Rattle.unit.specs.Fate.{is_success, fate_number}
 use Rattle.unit.specs.Clock.{after_time, after_code, after_ticks}
 use Rattle.unit.specs.Usable.{usable}
 use Rattle.unit.specs.Act.{with_clock}
 use Rattle.unit.specs.Given.{Arrived, as_read, Lent}
 use Rattle.unit.specs.Judge.{is_link}
 use Rattle.unit.specs.Calls.{Outcome, without_reply, leaving, take_packet, small_call, take_time_code, take_ticks}
-use Rattle.unit.specs.declared.fate.Status.{Status}
-use Rattle.unit.specs.declared.fate.Status.TheVariants.{Success, UnusedCode, WrongKey, DataCrc, EarlyEop, TooMuchData, EndedByEep, VerifyOverrun}
-use Rattle.unit.specs.declared.fate.Status.TheVariants.{NotAuthorised, RmwLength, WrongAddress, NotOwner, NoSuchField, ReadOnlyField, PlainDeviceId}
 use Rattle.unit.specs.declared.fate.Fate.{Fate}
 use Rattle.unit.specs.declared.fate.Fate.TheVariants.{TimeChanged, Unusable, NoSuchLink, NoRoom, Unread, TimeThrownAway, NotObeyed, Obeyed, TimeTaken, Replied}
 use Rattle.unit.specs.declared.clock.Clock.{Clock}
@@ -48,22 +46,9 @@ use Rattle.demands.proofs.NumbersHold.{one_two_three}
 -- ---- statuses and fates by their numbers
 
 -- status 0 is one status
-zero_is : (s : Status) → is_success s ≡ true → s ≡ Success
-zero_is Success e = refl
-zero_is UnusedCode e = absurd (false≢true e)
-zero_is WrongKey e = absurd (false≢true e)
-zero_is DataCrc e = absurd (false≢true e)
-zero_is EarlyEop e = absurd (false≢true e)
-zero_is TooMuchData e = absurd (false≢true e)
-zero_is EndedByEep e = absurd (false≢true e)
-zero_is VerifyOverrun e = absurd (false≢true e)
-zero_is NotAuthorised e = absurd (false≢true e)
-zero_is RmwLength e = absurd (false≢true e)
-zero_is WrongAddress e = absurd (false≢true e)
-zero_is NotOwner e = absurd (false≢true e)
-zero_is NoSuchField e = absurd (false≢true e)
-zero_is ReadOnlyField e = absurd (false≢true e)
-zero_is PlainDeviceId e = absurd (false≢true e)
+zero_is : (s : Status) → is_success s ≡ true → s ≡ Ok tt
+zero_is (Ok done) e = refl
+zero_is (Err offence) e = absurd (false≢true e)
 
 -- 0 and 1 are one fate each
 low_fate : (f : Fate) → fate_number f < 2 → f ≡ cond (eqb (fate_number f) 0) TimeChanged Unusable
@@ -73,7 +58,7 @@ low_fate NoSuchLink l = absurd (omega (arith, l))
 low_fate NoRoom l = absurd (omega (arith, l))
 low_fate (Unread why) l = absurd (omega (arith, l, (unread_number why).0))
 low_fate TimeThrownAway l = absurd (omega (arith, l))
-low_fate (NotObeyed s) l = absurd (omega (arith, l))
+low_fate (NotObeyed offence) l = absurd (omega (arith, l))
 low_fate Obeyed l = absurd (omega (arith, l))
 low_fate TimeTaken l = absurd (omega (arith, l))
 low_fate (Replied s) l = absurd (omega (arith, l))
@@ -111,9 +96,8 @@ module _ (u : TheUnit) (p : Arrived) (lent : Lent) where
       (placed 0 (reply_due u p lent h s) lent.reply) (length (reply_due u p lent h s))
 
   abbrev silent_due : Header → Status → Outcome
-  silent_due h s =
-      cond (is_success s) (ending Obeyed (counted_as 18 (unit_due h)) (memory_due h) lent.reply 0)
-      (ending (NotObeyed s) (counted_as 17 u) (refused_on h s p lent) lent.reply 0)
+  silent_due h (Ok done) = ending Obeyed (counted_as 18 (unit_due h)) (memory_due h) lent.reply 0
+  silent_due h (Err offence) = ending (NotObeyed offence) (counted_as 17 u) (refused_on h (Err offence) p lent) lent.reply 0
 
   -- a time packet
   abbrev time_due : Option TheTime → Outcome
@@ -203,11 +187,11 @@ module _ (u : TheUnit) (p : Arrived) (lent : Lent) where
         by_reading (Unread why) (omega (arith, (unread_number why).0)) exactly is (outcome_is o e unit memory reply)
     is_due TimeThrownAway e exactly ((is, time), (unit, memory, reply)) =
         by_reading TimeThrownAway (omega arith) exactly is (rw time (outcome_is o e unit memory reply))
-    is_due (NotObeyed s) e exactly ((h, is, asked, d, f, unit, memory), reply) =
-        by_reading (NotObeyed s) (omega arith) exactly is (rw (asked, rw d at f) (outcome_is o (e ∙ ap NotObeyed d) unit (rw d at memory) reply))
+    is_due (NotObeyed offence) e exactly ((h, is, asked, d, f, unit, memory), reply) =
+        by_reading (NotObeyed offence) (omega arith) exactly is (rw (asked, ← d) (outcome_is o e unit memory reply))
     is_due Obeyed e exactly (k, reply) =
         let x = obeyed 18 false k in
-        by_reading Obeyed (omega arith) exactly k.1 (rw (k.2, k.3) (outcome_is o e x.0 x.1 reply))
+        by_reading Obeyed (omega arith) exactly k.1 (rw (k.2, zero_is (status_due u p k.0) k.3) (outcome_is o e x.0 x.1 reply))
     is_due TimeTaken e exactly (t, (is, time), unit, memory, reply) =
         by_reading TimeTaken (omega arith) exactly is (rw time (outcome_is o e unit memory reply))
     is_due (Replied s) e exactly row =

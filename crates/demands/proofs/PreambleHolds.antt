@@ -6,6 +6,7 @@ use mathlib.Core.Bool.{Bool, true, false, cond, ◌&&◌, and-true, and-false}
 use mathlib.Core.Logic.{◌⊎◌, inl, inr, ⊎_elim, ◌≢◌}
 use mathlib.Core.List.{List, [], ◌∷◌}
 use Prim.Native.Nat.{ℕ, ◌+◌, ◌-◌, ◌%◌, ◌^◌, ◌≤◌}
+use Rattle.std.proofs.Common.{Some}
 use native.Mathlib.Omega.{arith}
 use native.Mathlib.Decide.{ℕ_discrete, dec_le}
 use native.Mathlib.Nat.{lt_of_not-le}
@@ -39,7 +40,6 @@ use Rattle.unit.specs.Calls.{Outcome, without_reply, leaving, done, take_packet,
 use Rattle.unit.specs.declared.fate.Fate.TheVariants.{TimeTaken}
 use Rattle.unit.specs.declared.clock.Clock.{Clock}
 use Rattle.unit.specs.declared.clock.Elapsed.{Elapsed}
-use Rattle.unit.specs.declared.clock.Waiting.TheVariants.{Value}
 use Rattle.unit.specs.declared.unit.Unit.{Unit as TheUnit}
 use Rattle.unit.proofs.FateLaws.{unread_number}
 use Rattle.unit.proofs.UsableLaws.{number_fits_law, alone}
@@ -209,7 +209,7 @@ module _ (u : TheUnit) (p : Arrived) (lent : Lent) (Q : Outcome → Type 0) wher
       (λ e n. absurd (omega (arith, n))) (λ e f n. absurd (omega (arith, n))) (λ e f why g n. absurd (omega (arith, n, (unread_number why).1)))
       (λ e f g w n. absurd (omega (arith, n)))
       (λ e f g t w n. taken t (rw (time_bare p.packet u.number g) at w))
-      (λ e f h g n. absurd (command_fate u h (path_in u p) (as_read p) lent (λ f. fate_number f ≢ 19) (λ n. omega (arith, n)) (λ s n. omega (arith, n)) (λ s e n. omega (arith, n)) (λ n. omega (arith, n)) n))
+      (λ e f h g n. absurd (command_fate u h (path_in u p) (as_read p) lent (λ f. fate_number f ≢ 19) (λ n. omega (arith, n)) (λ s n. omega (arith, n)) (λ o n. omega (arith, n)) (λ n. omega (arith, n)) n))
 
 pub taken_is_made : TakenIsMade ours
 unfolding counted_for
@@ -244,7 +244,7 @@ greatest_tick u p lent bytes =
     Shown : Outcome → Type 0
     Shown o =
         (octet_in p % 2 ≡ 1 → IsGreatest p (et_of o.answer.unit))
-        × (octet_in p % 2 ≡ 0 → (w : Elapsed) × (o.answer.unit.clock.waiting ≡ Value w) × IsGreatest p w.value)
+        × (octet_in p % 2 ≡ 0 → (w : Elapsed) × (o.answer.unit.clock.waiting ≡ Some w) × IsGreatest p w.value)
 
     go : (t : TheTime) (when : When) → t.when ≡ when → when_number when ≡ octet_in p % 2 → IsGreatest p t.value
         → Shown (leaving (without_reply TimeTaken (counted_unit TimeTaken (with_clock u (after_time u.clock t)))) lent)
@@ -252,17 +252,17 @@ greatest_tick u p lent bytes =
     go t AtWrap e bit most = rw e (λ one. absurd (omega (arith, bit, one)), λ none. (record { value = t.value; epoch = t.epoch }, refl, most))
 
 -- what waits goes on to wait
-small_waits : (v after : TheUnit) (w : Elapsed) → v.clock.waiting ≡ Value w → after.clock.waiting ≡ Value w → (small_call v after).unit.clock.waiting ≡ Value w
-small_waits v after w e f = small_is v after (λ a. a.unit.clock.waiting ≡ Value w) (λ u. e) (λ u. f)
+small_waits : (v after : TheUnit) (w : Elapsed) → v.clock.waiting ≡ Some w → after.clock.waiting ≡ Some w → (small_call v after).unit.clock.waiting ≡ Some w
+small_waits v after w e f = small_is v after (λ a. a.unit.clock.waiting ≡ Some w) (λ u. e) (λ u. f)
 
-waits_on : (v : TheUnit) (w : Elapsed) (cs : List Call) → v.clock.waiting ≡ Value w → BeforeWrap ours v cs → (after ours v cs).clock.waiting ≡ Value w
+waits_on : (v : TheUnit) (w : Elapsed) (cs : List Call) → v.clock.waiting ≡ Some w → BeforeWrap ours v cs → (after ours v cs).clock.waiting ≡ Some w
 unfolding after take_time_code take_ticks after_code after_ticks
 waits_on v w [] e b = e
 waits_on v w (packet p lent ∷ cs) e b = waits_on (take_packet v p lent).answer.unit w cs ((others_leave_time v p lent b.0).1 ∙ e) b.1
 waits_on v w (time_code byte ∷ cs) e b =
     waits_on (take_time_code v byte).unit w cs (small_waits v (with_clock v (after_code v.clock (byte % 2 ^ 6))) w e (go (eqb v.clock.last 63) (eqb (byte % 2 ^ 6) 0) refl refl)) b.1
   where
-    go : (s t : Bool) → eqb v.clock.last 63 ≡ s → eqb (byte % 2 ^ 6) 0 ≡ t → (after_code v.clock (byte % 2 ^ 6)).waiting ≡ Value w
+    go : (s t : Bool) → eqb v.clock.last 63 ≡ s → eqb (byte % 2 ^ 6) 0 ≡ t → (after_code v.clock (byte % 2 ^ 6)).waiting ≡ Some w
     go true true f g = absurd (b.0 (eqb-true _ _ f, eqb-true _ _ g))
     go true false f g = rw (f, g) e
     go false t f g = rw f e

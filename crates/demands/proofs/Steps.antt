@@ -1,8 +1,9 @@
 -- One RMAP command, as a step on memory: it tells and leaves what follows from the bytes that it refers to, stores to no other, and changes
 -- nothing of the unit but its counters.
+use Rattle.std.proofs.Common.{Some, Ok, Err}
 use Rattle.std.specs.Prelude.{Result, Ok}
 use mathlib.Core.Path.{◌≡◌, refl, sym, ◌∙◌, ap}
-use mathlib.Core.Bool.{Bool, true, false, cond, ◌&&◌, ◌||◌, false≢true, or-true, and-false}
+use mathlib.Core.Bool.{Bool, true, false, ◌&&◌, ◌||◌, false≢true, or-true, and-false}
 use mathlib.Core.Logic.{◌⊎◌, inl, inr}
 use mathlib.Core.List.{List}
 use Prim.Native.Nat.{ℕ, ◌+◌, ◌<◌, ◌≤◌}
@@ -16,10 +17,10 @@ use Rattle.packets.specs.Reply.{replied}
 use Rattle.packets.specs.declared.instruction.Kind.TheVariants.{ReadModifyWrite, Write}
 use Rattle.packets.specs.declared.header.Header.{Header}
 use Rattle.packets.specs.declared.path.Path.{Path}
+use Rattle.unit.specs.Fate.{Status, byte_of, is_success, fate_status}
 use Rattle.packets.specs.declared.reading.Packet.{Packet}
 use Rattle.packets.specs.declared.reading.Refusal.{Refusal}
 use Rattle.packets.specs.declared.reading.Packet.TheVariants.{Command}
-use Rattle.unit.specs.Fate.{byte_of, is_success, fate_status}
 use Rattle.unit.specs.Counters.{counted_for}
 use Rattle.unit.specs.Usable.{usable}
 use Rattle.unit.specs.Given.{Arrived, as_read, Lent}
@@ -27,10 +28,8 @@ use Rattle.unit.specs.Decide.{span_size, header_status, wanted_count, all_at_han
 use Rattle.unit.specs.Plan.{unanswered_fate}
 use Rattle.unit.specs.Act.{stored, data_for, counted_unit}
 use Rattle.unit.specs.Calls.{Outcome, take_packet}
-use Rattle.unit.specs.declared.fate.Status.{Status}
 use Rattle.unit.specs.declared.fate.Fate.{Fate}
-use Rattle.unit.specs.declared.fate.Fate.TheVariants.{NotObeyed, Obeyed, Replied}
-use Rattle.unit.specs.declared.fate.Told.TheVariants.{Byte}
+use Rattle.unit.specs.declared.fate.Fate.TheVariants.{Replied}
 use Rattle.unit.specs.declared.unit.Unit.{Unit as TheUnit}
 use Rattle.unit.proofs.CallLaws.{packet_length, by_sizes}
 use Rattle.unit.proofs.DecideLaws.{write_bit, data_is}
@@ -49,16 +48,13 @@ second_read p rmap = ap (λ (b : List ℕ). get_or b 1 0) (bare_rmap p.packet rm
 
 -- ---- a memory command whose header is accepted refers to its span, whatever its data
 
-data_refers : (h : Header) (p : Arrived) → refers_to_none (Byte (byte_of (data_status_of h p))) ≡ false
+data_refers : (h : Header) (p : Arrived) → refers_to_none (Some (byte_of (data_status_of h p))) ≡ false
 data_refers h p =
-    data_is (λ s. refers_to_none (Byte (byte_of s)) ≡ false) (data_count h (all_at_hand h p)) (all_at_hand h p).data_crc (wanted_count h) p.end refl refl refl refl refl
+    data_is (λ s. refers_to_none (Some (byte_of s)) ≡ false) (data_count h (all_at_hand h p)) (all_at_hand h p).data_crc (wanted_count h) p.end refl refl refl refl refl
 
-silent_refers : (s : Status) → refers_to_none (Byte (byte_of s)) ≡ false → refers_to_none (fate_status (unanswered_fate s)) ≡ false
-silent_refers s e = go (is_success s)
-  where
-    go : (t : Bool) → refers_to_none (fate_status (cond t Obeyed (NotObeyed s))) ≡ false
-    go true = refl
-    go false = e
+silent_refers : (s : Status) → refers_to_none (Some (byte_of s)) ≡ false → refers_to_none (fate_status (unanswered_fate s)) ≡ false
+silent_refers (Ok done) e = refl
+silent_refers (Err offence) e = e
 
 -- ---- one command
 

@@ -2,7 +2,7 @@
 use Rattle.packets.specs.declared.time.Time.{Time as TheTime}
 use Rattle.std.specs.Prelude.{Option, Some, None, Ok, Err}
 use mathlib.Core.Path.{◌≡◌, refl, sym, ◌∙◌, ap}
-use mathlib.Core.Bool.{true, false}
+use mathlib.Core.Bool.{true, false, false≢true}
 use mathlib.Core.Logic.{◌⊎◌, inl, inr, ⊎_elim, ◌≢◌}
 use mathlib.Core.List.{List, ◌∷◌}
 use Prim.Native.Nat.{ℕ}
@@ -17,11 +17,11 @@ use Rattle.packets.specs.declared.reading.Refusal.TheVariants.{UnknownProtocol}
 use Rattle.packets.proofs.BareLaws.{bare_lacks, bare_zero, bare_other, bare_once}
 use Rattle.packets.proofs.TimeLaws.{taken_addressed, thrown_away}
 use Rattle.packets.proofs.ReadingLaws.{target_read, protocol_extended, packet_protocol, packet_time, packet_unknown}
+use Rattle.std.proofs.Common.{Ok, Err}
 use Rattle.unit.specs.Given.{Arrived, as_read, Lent}
-use Rattle.unit.specs.Fate.{is_success, fate_number}
+use Rattle.unit.specs.Fate.{Status, is_success, fate_number}
 use Rattle.unit.specs.Decide.{header_status}
 use Rattle.unit.specs.Plan.{unanswered_fate}
-use Rattle.unit.specs.declared.fate.Status.{Status}
 use Rattle.unit.specs.Judge.{time_ruling, judged}
 use Rattle.unit.specs.Calls.{done, take_read, take_packet}
 use Rattle.unit.specs.declared.unit.Unit.{Unit as TheUnit}
@@ -98,7 +98,8 @@ only_addressed u p lent otherwise unit all =
     (λ q a. absurd (elsewhere h g a)) (λ q a. absurd (elsewhere h g a)))
   where
     silent : (s : Status) → is_success s ≡ false → fate_number (unanswered_fate s) ≢ 19
-    silent s e = rw e (λ n. omega (arith, n))
+    silent (Ok done) e = absurd (false≢true (sym e))
+    silent (Err offence) e = λ n. omega (arith, n)
 
     first : get_or (as_read p).packet 0 0 ≡ get_or p.packet 0 0
     first = ap (λ (b : List ℕ). get_or b 0 0) (bare_other p.packet otherwise)

@@ -1,7 +1,5 @@
 -- Impostors (document 01, 'What a promise has to say'): terminals that a demand has to shut out.
-use Rattle.std.specs.Prelude.{Result, Ok, Err}
-use Rattle.std.specs.Prelude.{Option, Some, None}
-use Rattle.std.specs.Prelude.{◌≡◌, Bool, true, cond, ◌&&◌, ◌||◌, List, [], ℕ, ◌+◌, ◌/◌, ◌%◌, ◌^◌, eqb, length, get_or, drop, replicate}
+use Rattle.std.specs.Prelude.{◌≡◌, Bool, true, cond, ◌&&◌, ◌||◌, List, [], ℕ, ◌+◌, ◌/◌, ◌%◌, ◌^◌, eqb, length, get_or, drop, replicate, Option, None, Some, Ok, Result, Err}
 use Rattle.octets.specs.Places.{part}
 use Rattle.octets.specs.Numbers.{number}
 use Rattle.octets.specs.Crc.{crc}
@@ -24,11 +22,10 @@ use Rattle.unit.specs.Act.{with_clock, with_counters, counted_unit}
 use Rattle.unit.specs.Given.{Arrived, Lent, sizes_of}
 use Rattle.unit.specs.Judge.{ruling_on, is_link}
 use Rattle.unit.specs.Calls.{Outcome, without_reply, leaving, done, take_read, take_packet, small_call, take_time_code, take_ticks}
-use Rattle.unit.specs.declared.fate.Status.TheVariants.{Success, NotAuthorised}
+use Rattle.unit.specs.declared.fate.Offence.TheVariants.{NotAuthorised}
 use Rattle.unit.specs.declared.fate.Fate.TheVariants.{NotObeyed, Obeyed, Replied}
+use Rattle.unit.specs.declared.clock.Elapsed.{Elapsed}
 use Rattle.unit.specs.declared.clock.Clock.{Clock}
-use Rattle.unit.specs.declared.clock.Waiting.{Waiting}
-use Rattle.unit.specs.declared.clock.Waiting.TheVariants.{NoValue, Value}
 use Rattle.unit.specs.declared.unit.Unit.{Unit as TheUnit}
 use Rattle.demands.specs.Terminal.{Terminal, read_of, Call, after, Every}
 use Rattle.demands.specs.ReplyDue.{Written}
@@ -58,7 +55,7 @@ does_nothing = faking (λ u p lent. leaving (without_reply Obeyed u) lent)
 -- A reply with status 0 and without data, counted as such, and no effect.
 abbrev pub acknowledged : TheUnit → Header → Path → Lent → Outcome
 acknowledged u h path lent = record {
-  answer = record { unit = counted_unit (Replied Success) u; fate = Replied Success; length = reply_length path h 0 0 };
+  answer = record { unit = counted_unit (Replied (Ok tt)) u; fate = Replied (Ok tt); length = reply_length path h 0 0 };
   memory = lent.memory;
   reply = replied path h 0 [] lent.reply;
 }
@@ -129,14 +126,14 @@ abbrev pub clears_memory : Terminal
 clears_memory = faking (λ u p lent. cleared (take_packet u p lent))
 
 -- Its packets and ticks are ours, but at the wrap seconds go up whatever the fraction: document 01's terminal before request 3.
-abbrev pub always_up : Waiting → Clock → ℕ → Clock
-always_up (Value w) c v = after_code c v
-always_up NoValue c v =
+abbrev pub always_up : Option Elapsed → Clock → ℕ → Clock
+always_up (Some w) c v = after_code c v
+always_up None c v =
     cond (eqb c.last 63 && eqb v 0)
     (record {
       last = v;
       elapsed = record { value = time_of ((seconds_of c.elapsed.value + 1) % 2 ^ 32) 0; epoch = c.elapsed.epoch };
-      waiting = NoValue;
+      waiting = None;
     })
     (after_code c v)
 

@@ -1,6 +1,5 @@
 -- Demand 3: two lists of RMAP commands, merged (document 01, 'Span' and 'What a promise has to say').
-use Rattle.std.specs.Prelude.{Result, Ok, Err}
-use Rattle.std.specs.Prelude.{◌≡◌, Bool, true, false, not, ◌&&◌, ◌||◌, List, [], ◌∷◌, ℕ, ◌+◌, leb, ltb, get_or}
+use Rattle.std.specs.Prelude.{◌≡◌, Bool, true, false, not, ◌&&◌, ◌||◌, List, [], ◌∷◌, ℕ, ◌+◌, leb, ltb, get_or, Option, Some, None, Result, Ok, Err}
 use Rattle.packets.specs.Instruction.{is_write, is_rmw}
 use Rattle.packets.specs.Header.{kind_in}
 use Rattle.packets.specs.declared.header.Header.{Header}
@@ -13,8 +12,6 @@ use Rattle.unit.specs.Given.{Arrived, Lent}
 use Rattle.unit.specs.Decide.{span_size}
 use Rattle.unit.specs.Calls.{Outcome}
 use Rattle.unit.specs.declared.fate.Fate.{Fate}
-use Rattle.unit.specs.declared.fate.Told.{Told}
-use Rattle.unit.specs.declared.fate.Told.TheVariants.{Nothing, Byte}
 use Rattle.unit.specs.declared.unit.Unit.{Unit as TheUnit}
 use Rattle.demands.specs.Terminal.{Terminal, ours, read_of, Every}
 
@@ -83,9 +80,9 @@ ends t s (c ∷ cs) = ends t (next_of t s c) cs
 -- ---- what a command refers to
 
 -- Given no status, or refused with a status from 2 to 12 other than 4 to 7: no byte. (F0 to F3 are plug-and-play's.)
-abbrev pub refers_to_none : Told → Bool
-refers_to_none Nothing = true
-refers_to_none (Byte status) = leb 2 status && leb status 12 && not (leb 4 status && leb status 7)
+abbrev pub refers_to_none : Option ℕ → Bool
+refers_to_none None = true
+refers_to_none (Some status) = leb 2 status && leb status 12 && not (leb 4 status && leb status 7)
 
 -- The span: from A on, as many bytes as its size.
 abbrev pub in_span : Header → ℕ → Bool

@@ -1,19 +1,16 @@
 -- Demand 2: each packet does what document 01 says, byte by byte.
-use Rattle.std.specs.Prelude.{◌≡◌, true, false, ◌&&◌, ◌||◌, ◌⊎◌, ◌≢◌, List, [], ◌∷◌, ℕ, ◌<◌, eqb, length, get_or}
+use Rattle.std.specs.Prelude.{◌≡◌, true, false, ◌&&◌, ◌||◌, ◌⊎◌, ◌≢◌, List, [], ◌∷◌, ℕ, ◌<◌, eqb, length, get_or, Option, Some}
 use Rattle.octets.specs.Numbers.{Digits}
 use Rattle.packets.specs.Instruction.{is_rmw, is_write, is_verified}
 use Rattle.packets.specs.Header.{kind_in}
 use Rattle.packets.specs.declared.header.Header.{Header}
 use Rattle.unit.specs.Some.{some}
-use Rattle.unit.specs.Fate.{fate_status}
+use Rattle.unit.specs.Fate.{Status, fate_status}
 use Rattle.unit.specs.Owner.{is_owner}
 use Rattle.unit.specs.Fields.{device_id, time_code_counter, divider, missing, row_of, values_of}
 use Rattle.unit.specs.Given.{Arrived, as_read, Lent, sizes_of}
 use Rattle.unit.specs.Calls.{Outcome, take_packet, take_time_code, take_ticks}
-use Rattle.unit.specs.declared.fate.Status.{Status}
 use Rattle.unit.specs.declared.fate.Fate.TheVariants.{Replied}
-use Rattle.unit.specs.declared.fate.Told.{Told}
-use Rattle.unit.specs.declared.fate.Told.TheVariants.{Byte}
 use Rattle.unit.specs.declared.unit.Unit.{Unit as TheUnit}
 use Rattle.unit.specs.Judge.{judged, fate_in, length_in}
 use Rattle.unit.proofs.judge.Reads.{Learnt as promise-of-judge}
@@ -83,12 +80,12 @@ JudgeForetells =
 -- ---- refused, and memory unchanged
 
 -- A command stores with a status: a write or an RMW with 0; and a write without verify also with 4, 5, 6 or 7.
-abbrev pub StoresWith : Header → Told → Type 0
+abbrev pub StoresWith : Header → Option ℕ → Type 0
 StoresWith h told =
-    (((is_write h.instruction || is_rmw (kind_in h)) ≡ true) × (told ≡ Byte 0))
+    (((is_write h.instruction || is_rmw (kind_in h)) ≡ true) × (told ≡ Some 0))
     ⊎ ((is_write h.instruction ≡ true)
     × (is_verified h.instruction ≡ false)
-    × ((status : ℕ) × (told ≡ Byte status) × (some (eqb status) (4 ∷ 5 ∷ 6 ∷ 7 ∷ []) ≡ true)))
+    × ((status : ℕ) × (told ≡ Some status) × (some (eqb status) (4 ∷ 5 ∷ 6 ∷ 7 ∷ []) ≡ true)))
 
 -- Memory is as it was, or the packet is an RMAP command that stores with the status it has.
 abbrev pub KeepsOrStores : TheUnit → Arrived → Lent → Outcome → Type 0
@@ -105,7 +102,7 @@ abbrev pub RefusedChangesNone : Terminal → Type 0
 RefusedChangesNone t =
     (u : TheUnit) (p : Arrived) (lent : Lent) (h : Header) → IsCommand u p h
     → ((is_write h.instruction && is_verified h.instruction) || is_rmw (kind_in h)) ≡ true
-    → fate_status (t.packet u p lent).answer.fate ≢ Byte 0 → (t.packet u p lent).memory ≡ lent.memory
+    → fate_status (t.packet u p lent).answer.fate ≢ Some 0 → (t.packet u p lent).memory ≡ lent.memory
 
 -- ---- what can be owned
 

@@ -50,7 +50,7 @@ use Rattle.packets.proofs.ccsds.Unsent.number.Reads.{Asked as asked·Unsent·num
 use Rattle.packets.proofs.read_ccsds.Reads.{Asked as asked·read_ccsds, Learnt as promise·read_ccsds}
 use Rattle.packets.proofs.space_packet.Reads.{Asked as asked·space_packet, Learnt as promise·space_packet}
 use Rattle.packets.proofs.write_ccsds.Reads.{Asked as asked·write_ccsds, Learnt as promise·write_ccsds}
-use Rattle.unit.proofs.fate.Status.byte.Reads.{Asked as asked·Status·byte, Learnt as promise·Status·byte}
+use Rattle.unit.proofs.status_byte.Reads.{Asked as asked·status_byte, Learnt as promise·status_byte}
 use Rattle.unit.proofs.fate.Fate.number.Reads.{Asked as asked·Fate·number, Learnt as promise·Fate·number}
 use Rattle.unit.proofs.fate.Fate.status.Reads.{Asked as asked·Fate·status, Learnt as promise·Fate·status}
 use Rattle.unit.proofs.judge.Reads.{Asked as asked·judge, Learnt as promise·judge}
@@ -157,7 +157,7 @@ PacketsDetermined =
 
 abbrev pub UnitDetermined : Type 0
 UnitDetermined =
-    (OneResult promise·Status·byte)
+    (OneResult promise·status_byte)
     × (OneResult promise·Fate·number)
     × (OneResult promise·Fate·status)
     × (OneResult promise·judge)
@@ -248,7 +248,7 @@ PacketsAskNothing =
 
 abbrev pub UnitAsksNothing : Type 0
 UnitAsksNothing =
-    AsksNothing asked·Status·byte
+    AsksNothing asked·status_byte
     × AsksNothing asked·Fate·number
     × AsksNothing asked·Fate·status
     × AsksNothing asked·judge

@@ -3,9 +3,7 @@
 --
 -- Bytes and bits are taken apart and put together in numerals here, and not by the words that `read_time` is made of: these and the code could slip together, and what is
 -- said here has to show it.
-use Rattle.std.specs.Prelude.{Result, Ok, Err}
-use Rattle.std.specs.Prelude.{Option, Some, None}
-use Rattle.std.specs.Prelude.{◌≡◌, Bool, true, cond, ◌&&◌, ◌||◌, ◌⊎◌, List, [], ◌∷◌, ◌++◌, ℕ, ◌+◌, ◌-◌, ◌*◌, ◌/◌, ◌%◌, ◌^◌, ◌<◌, ◌≤◌, eqb, length, get_or, replicate}
+use Rattle.std.specs.Prelude.{◌≡◌, Bool, true, cond, ◌&&◌, ◌||◌, ◌⊎◌, List, [], ◌∷◌, ◌++◌, ℕ, ◌+◌, ◌-◌, ◌*◌, ◌/◌, ◌%◌, ◌^◌, ◌<◌, ◌≤◌, eqb, length, get_or, replicate, None, Some, Option, Result, Ok, Err}
 use Rattle.octets.specs.Places.{part}
 use Rattle.octets.specs.Numbers.{number, bytes_of, Digits}
 use Rattle.octets.specs.Crc.{crc, with_crc}
@@ -27,7 +25,6 @@ use Rattle.unit.specs.Judge.{time_ruling, is_link}
 use Rattle.unit.specs.Calls.{Outcome, done, take_packet, take_time_code, take_ticks}
 use Rattle.unit.specs.declared.clock.Clock.{Clock}
 use Rattle.unit.specs.declared.clock.Elapsed.{Elapsed}
-use Rattle.unit.specs.declared.clock.Waiting.TheVariants.{NoValue, Value}
 use Rattle.unit.specs.declared.unit.Unit.{Unit as TheUnit}
 use Rattle.demands.specs.Terminal.{Terminal, ours, read_of, Call, packet, time_code, ticks, after}
 use Rattle.demands.specs.Refusals.{counted_as, NoReply, OnlyCounted}
@@ -69,8 +66,8 @@ MadeOf u p time zeros cut =
 
 -- The clock behind it: at once ET is that time, with its epoch code, and nothing waits; else that time waits, and ET stays. The last Time-Code stays.
 abbrev pub clock_set : When → Clock → TheTime → Clock
-clock_set AtOnce c time = record { last = c.last; elapsed = record { value = time.value; epoch = time.epoch }; waiting = NoValue }
-clock_set AtWrap c time = record { last = c.last; elapsed = c.elapsed; waiting = Value (record { value = time.value; epoch = time.epoch }) }
+clock_set AtOnce c time = record { last = c.last; elapsed = record { value = time.value; epoch = time.epoch }; waiting = None }
+clock_set AtWrap c time = record { last = c.last; elapsed = c.elapsed; waiting = Some (record { value = time.value; epoch = time.epoch }) }
 
 -- It gets 19, and sets the time.
 abbrev pub Sets : TheUnit → Lent → TheTime → Outcome → Type 0
@@ -118,7 +115,7 @@ abbrev pub GreatestTick : Terminal → Type 0
 GreatestTick t =
     (u : TheUnit) (p : Arrived) (lent : Lent) → Digits 256 p.packet → number_got (t.packet u p lent) ≡ 19
     → (octet_in p % 2 ≡ 1 → IsGreatest p (et_of (t.packet u p lent).answer.unit))
-    × (octet_in p % 2 ≡ 0 → (w : Elapsed) × ((t.packet u p lent).answer.unit.clock.waiting ≡ Value w) × IsGreatest p w.value)
+    × (octet_in p % 2 ≡ 0 → (w : Elapsed) × ((t.packet u p lent).answer.unit.clock.waiting ≡ Some w) × IsGreatest p w.value)
 
 -- Calls among which no time packet is taken, and no Time-Code is a wrap.
 abbrev pub BeforeWrap : Terminal → TheUnit → List Call → Type 0

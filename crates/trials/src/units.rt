@@ -2,7 +2,7 @@
 // reply, the CRC of the whole reply buffer, and the reply's first bytes.
 use crate::show;
 use packets::End;
-use unit::{Answer, Clock, Elapsed, Fate, Fields, Owner, Told, Unit, Waiting, Window};
+use unit::{Answer, Clock, Elapsed, Fate, Fields, Owner, Unit, Window};
 
 // The unit as the last line left it, and how much of memory is lent to it.
 #[derive(Clone, Copy)]
@@ -53,12 +53,10 @@ pub(crate) fn set(state: State, fields: &[u8]) -> State {
 }
 
 fn with_waiting(clock: Clock, value: u64) -> Clock {
-    let elapsed = clock.elapsed;
     let sent = Elapsed { value, epoch: 0x9F };
     Clock {
-        last: clock.last,
-        elapsed,
-        waiting: Waiting::Value(sent),
+        waiting: Some(sent),
+        ..clock
     }
 }
 
@@ -160,8 +158,8 @@ fn told(name: &[u8], fate: Fate) {
     io::print_decimal(1, fate.number() as u64);
     let status = fate.status();
     match status {
-        Told::Nothing => show::text(b" -"),
-        Told::Byte(b) => show::number(b" ", b as u64, 2),
+        None => show::text(b" -"),
+        Some(b) => show::number(b" ", b as u64, 2),
     }
 }
 
@@ -238,10 +236,9 @@ fn owner(owner: Owner) {
 fn clock(clock: Clock) {
     show::number(b" clock ", clock.last as u64, 2);
     elapsed(clock.elapsed);
-    let waiting = clock.waiting;
-    match waiting {
-        Waiting::NoValue => show::text(b" none"),
-        Waiting::Value(value) => elapsed(value),
+    match clock.waiting {
+        None => show::text(b" none"),
+        Some(value) => elapsed(value),
     }
     show::text(b"\n");
 }

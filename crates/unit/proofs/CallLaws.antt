@@ -1,21 +1,20 @@
 -- Laws of calls: what fates 1, 2 and 3 leave; the lengths of memory, reply buffer and reply; fate and length of the reply are as judged.
-use Rattle.std.proofs.Common.{◌≡◌, ℕ, ◌%◌, ◌^◌, ◌≤◌, Bool, true, false, cond, List, length, sym, refl, ap, ◌∙◌, arith}
+use Rattle.std.proofs.Common.{◌≡◌, ℕ, ◌%◌, ◌^◌, ◌≤◌, List, length, sym, refl, ap, ◌∙◌, arith, Ok, Err}
 use Rattle.packets.specs.Reading.{read_packet, path_read}
 use Rattle.packets.specs.Reply.{replied}
 use Rattle.packets.specs.declared.header.Header.{Header}
 use Rattle.packets.specs.declared.path.Path.{Path}
 use Rattle.packets.proofs.ReadingLaws.{header_whole}
 use Rattle.packets.proofs.ReplyLaws.{length_replied}
-use Rattle.unit.specs.Fate.{is_success, fate_number}
+use Rattle.unit.specs.Fate.{Status, fate_number}
 use Rattle.unit.specs.Clock.{after_code, after_ticks}
 use Rattle.unit.specs.Act.{with_clock}
 use Rattle.unit.specs.Given.{Arrived, as_read, Lent, sizes_of}
 use Rattle.unit.specs.Decide.{header_status, all_at_hand, data_status_of}
 use Rattle.unit.specs.Plan.{unanswered_fate}
 use Rattle.unit.specs.Judge.{judged, fate_in, length_in}
-use Rattle.unit.specs.Calls.{Outcome, without_reply, leaving, done, take_packet, take_time_code, take_ticks}
-use Rattle.unit.specs.declared.fate.Status.{Status}
-use Rattle.unit.specs.declared.fate.Fate.TheVariants.{NotObeyed, Obeyed, Replied}
+use Rattle.unit.specs.Calls.{Outcome, without_reply, leaving, take_packet, take_time_code, take_ticks, done}
+use Rattle.unit.specs.declared.fate.Fate.TheVariants.{Replied}
 use Rattle.unit.specs.declared.judging.Sizes.{Sizes}
 use Rattle.unit.specs.declared.judging.Ruling.{Ruling}
 use Rattle.unit.specs.declared.judging.Ruling.TheVariants.{Ends, SetsTime, Planned}
@@ -27,11 +26,8 @@ use Rattle.unit.proofs.CommandLaws.{take_command, packet_is, small_is, command_i
 
 -- a command without a reply has a number above 3
 silent_high : (s : Status) → fate_number (unanswered_fate s) ≤ 3 → ⊥
-silent_high s = go (is_success s)
-  where
-    go : (t : Bool) → fate_number (cond t Obeyed (NotObeyed s)) ≤ 3 → ⊥
-    go true l = omega arith
-    go false l = omega arith
+silent_high (Ok done) l = omega arith
+silent_high (Err offence) l = omega arith
 
 module _ (u : TheUnit) (p : Arrived) where
   abbrev path : Path

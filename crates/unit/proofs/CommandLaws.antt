@@ -1,7 +1,7 @@
 -- The ways that a packet and a command can go: what holds of each of them holds of every one. No memory command changes the unit, no field
 -- command changes memory.
+use Rattle.std.proofs.Common.{◌≡◌, ℕ, ◌+◌, Bool, true, false, cond, eqb, ◌≢◌, List, [], length, refl, Ok, Err, ap, subst}
 use Rattle.std.specs.Prelude.{Option, Some, None, Result, Ok, Err}
-use Rattle.std.proofs.Common.{◌≡◌, ℕ, ◌+◌, Bool, true, false, cond, eqb, ◌≢◌, List, [], length, refl, ap, subst}
 use Rattle.octets.specs.Places.{part}
 use Rattle.octets.specs.Numbers.{number}
 use Rattle.packets.specs.Instruction.{wants_reply, header_size}
@@ -18,7 +18,7 @@ use Rattle.packets.specs.declared.reading.Packet.{Packet}
 use Rattle.packets.specs.declared.reading.Packet.TheVariants.{Time, Command}
 use Rattle.packets.specs.declared.reading.Refusal.{Refusal}
 use Rattle.packets.specs.declared.time.Time.{Time as TheTime}
-use Rattle.unit.specs.Fate.{byte_of, is_success, fate_number}
+use Rattle.unit.specs.Fate.{Status, byte_of, is_success, fate_number}
 use Rattle.unit.specs.Counters.{counted_for}
 use Rattle.unit.specs.Clock.{after_time, time_code_written}
 use Rattle.unit.specs.Owner.{swapped}
@@ -30,7 +30,7 @@ use Rattle.unit.specs.Plan.{action_of, field_action_of, unanswered_fate, reply_c
 use Rattle.unit.specs.Judge.{is_link}
 use Rattle.unit.specs.Act.{stored, data_for, replied_to, with_owner, with_fields, with_clock, field_written, changed, counted_unit}
 use Rattle.unit.specs.Calls.{Outcome, without_reply, leaving, acted, done, take_packet, small_call}
-use Rattle.unit.specs.declared.fate.Status.{Status}
+use Rattle.unit.specs.declared.fate.Offence.{Offence}
 use Rattle.unit.specs.declared.fate.Fate.{Fate}
 use Rattle.unit.specs.declared.fate.Fate.TheVariants.{TimeChanged, Unusable, NoSuchLink, NoRoom, Unread, TimeThrownAway, NotObeyed, Obeyed, TimeTaken, Replied}
 use Rattle.unit.specs.declared.calls.Answer.{Answer}
@@ -202,7 +202,7 @@ module _ (u : TheUnit) (h : Header) (path : Path) (p : Arrived) where
     planned_acts : (s : Status) (a : Action) → NoRooms → BothDo s (changed a u h.initiator path p.link) a → acting (planned_for h path s a (length r))
     unfolding replied_to stored changed counted_for
     planned_acts s a none does =
-        planned_is h path s a (length r) acting (λ w l. none) (λ w l. does.0 w) (λ w e. rw e at (does.1 w)) (λ w e. rw e at (does.1 w))
+        planned_is h path s a (length r) acting (λ w l. none) (λ w l. does.0 w) (λ w e. rw e at (does.1 w)) (λ w o e. rw e at (does.1 w))
 
     pub commands_are : NoRooms
         → (is_success first ≡ false → BothAnswer first u m n [] [])
@@ -239,18 +239,18 @@ module _ (u : TheUnit) (h : Header) (path : Path) (p : Arrived) where
 
 -- its fate: 3, 20, 17 with a status that is not 0, or 18
 pub command_fate : (u : TheUnit) (h : Header) (path : Path) (p : Arrived) (lent : Lent) (P : Fate → Type 0)
-    → P NoRoom → ((s : Status) → P (Replied s)) → ((s : Status) → is_success s ≡ false → P (NotObeyed s)) → P Obeyed
+    → P NoRoom → ((s : Status) → P (Replied s)) → ((offence : Offence) → P (NotObeyed offence)) → P Obeyed
     → P (take_command u h path p lent).answer.fate
 command_fate u h path p lent P three twenty seventeen eighteen =
     command_is u h path p lent (λ o. P o.answer.fate) three (λ e. either (header_status u h path p.link)) (λ e a. either (data_status_of h p))
     (λ e a. either (data_status_of h p))
   where
-    quiet : (s : Status) (t : Bool) → is_success s ≡ t → P (cond t Obeyed (NotObeyed s))
-    quiet s true e = eighteen
-    quiet s false e = seventeen s e
+    quiet : (s : Status) → P (unanswered_fate s)
+    quiet (Ok done) = eighteen
+    quiet (Err offence) = seventeen offence
 
     either : {A B : Type 0} (s : Status) → (A → P (Replied s)) × (B → P (unanswered_fate s))
-    either s = (λ w. twenty s, λ w. quiet s (is_success s) refl)
+    either s = (λ w. twenty s, λ w. quiet s)
 
 -- ---- the unit after a packet: as it was, with the time of a time packet, or after a swap or a write to a field; and counted
 

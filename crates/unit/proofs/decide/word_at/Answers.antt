@@ -6,5 +6,5 @@ use Rattle.unit.proofs.decide.word_at.Goals as goal
 
 pub returns : goal.returns
 returns c =
-    c.number4.ensures
+    c.from_octets.ensures
     ∙ ap number (sym (part_bytes c.args.at 3 c.args.bytes.now c.requires))
