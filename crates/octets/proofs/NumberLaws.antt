@@ -67,12 +67,12 @@ digits_at base [] k some t = some
 digits_at base (d ∷ ds) zero some t = t.0
 digits_at base (d ∷ ds) (suc k) some t = digits_at base ds k some t.1
 
-digits_take : (base n : ℕ) (ds : List ℕ) → Digits base ds → Digits base (take n ds)
+pub digits_take : (base n : ℕ) (ds : List ℕ) → Digits base ds → Digits base (take n ds)
 digits_take base zero ds t = tt
 digits_take base (suc n) [] t = tt
 digits_take base (suc n) (d ∷ ds) t = (t.0, digits_take base n ds t.1)
 
-digits_drop : (base n : ℕ) (ds : List ℕ) → Digits base ds → Digits base (drop n ds)
+pub digits_drop : (base n : ℕ) (ds : List ℕ) → Digits base ds → Digits base (drop n ds)
 digits_drop base zero ds t = t
 digits_drop base (suc n) [] t = tt
 digits_drop base (suc n) (d ∷ ds) t = digits_drop base n ds t.1

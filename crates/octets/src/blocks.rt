@@ -11,9 +11,10 @@ pub(crate) fn sum_of_blocks(running: u8, bytes: &[u8]) -> [u8; 127]
 {
     let mut sum = [0; 127];
     sum[0] = running;
-    let (blocks, _) = bytes.as_chunks::<127>();
-    for block in blocks {
+    let mut left = bytes;
+    while let Some((block, more)) = left.split_first_chunk::<127>() {
         add_block(block, &mut sum);
+        left = more;
     }
     sum
 }

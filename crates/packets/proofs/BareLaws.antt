@@ -2,20 +2,16 @@
 use mathlib.Core.Path.{◌≡◌, refl, sym, ◌∙◌, ap}
 use mathlib.Core.Bool.{Bool, true, false, cond, ◌&&◌, false≢true}
 use mathlib.Core.List.{List, [], ◌∷◌}
-use Prim.Native.Nat.{ℕ, ◌<◌}
+use Prim.Native.Nat.{ℕ}
 use native.Mathlib.Omega.{arith}
 use borrow.Author.Tests.{eqb-true}
 use lib.Dec.{eqb}
-use lib.ListN.{length, get_or, drop}
+use lib.ListN.{get_or, drop}
 use Rattle.octets.specs.Numbers.{Digits}
 use Rattle.octets.proofs.PlaceLaws.{first_true, second_true}
 use Rattle.packets.specs.Reading.{has_zero, bare}
 
 -- ---- by the test
-
-pub bare_has : (p : List ℕ) → has_zero p ≡ true → drop 1 p ≡ bare p
-unfolding bare
-bare_has p e = rw e
 
 pub bare_lacks : (p : List ℕ) → has_zero p ≡ false → p ≡ bare p
 unfolding bare
@@ -26,6 +22,9 @@ bare_lacks p e = rw e
 pub bare_zero : (q : List ℕ) → bare (0x00 ∷ 0xFE ∷ 0x03 ∷ q) ≡ 0xFE ∷ 0x03 ∷ q
 unfolding bare
 bare_zero q = refl
+
+pub bare_begins : (p q : List ℕ) → p ≡ 0x00 ∷ 0xFE ∷ 0x03 ∷ q → drop 1 p ≡ bare p
+bare_begins p q e = ap (drop 1) e ∙ sym (ap bare e ∙ bare_zero q)
 
 has_zero_law : (p : List ℕ) → has_zero p ≡ true → p ≡ 0x00 ∷ 0xFE ∷ 0x03 ∷ drop 3 p
 has_zero_law [] e = absurd (false≢true e)
@@ -50,9 +49,6 @@ module _ (p : List ℕ) where
 
   pub bare_other : ((q : List ℕ) → p ≡ 0x00 ∷ 0xFE ∷ 0x03 ∷ q → ⊥) → bare p ≡ p
   bare_other none = bare_is (λ b. b ≡ p) (λ q e. absurd (none q e)) (λ e. refl)
-
-  pub bare_short : length p < 3 → p ≡ bare p
-  bare_short short = sym (bare_other (λ q e. omega (arith, ap length e, short)))
 
   -- a packet whose protocol is 01 has no zero
   pub bare_rmap : get_or p 1 0 ≡ 0x01 → bare p ≡ p

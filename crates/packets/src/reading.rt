@@ -62,13 +62,11 @@ impl Refusal {
 pub fn bare(packet: &[u8]) -> &[u8]
     ensures { result.now ≡ Reading·bare packet.now }
 {
-    if packet.len() < 3 {
-        return packet;
+    if packet.starts_with(&[0x00, 0xFE, 0x03]) {
+        &packet[1..]
+    } else {
+        packet
     }
-    if (packet[0] == 0x00) & (packet[1] == 0xFE) & (packet[2] == 0x03) {
-        return &packet[1..];
-    }
-    packet
 }
 
 // Reads the bytes of a packet as they are, by the second, the protocol. `number` is the time number of the unit.

@@ -50,7 +50,7 @@ module _ (l : List ℕ) where
   pub offence_none : (i : ℕ) → i < length l → offence_of (right_of (get_or l i 0)) ≡ Ok tt → write_offence (drop i l) ≡ write_offence (drop (i + 1) l)
   offence_none i h e = offence_at i h ∙ rw e
 
-  pub offence_end : (i : ℕ) → length l ≤ i → write_offence (drop i l) ≡ (Ok tt)
+  pub offence_end : (i : ℕ) → length l ≤ i → write_offence (drop i l) ≡ Ok tt
   offence_end i h = rw (drop_of_length-le l {i = i} h)
 
 -- ---- the bytes of fields, one field after the other

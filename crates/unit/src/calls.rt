@@ -7,7 +7,7 @@ ghost use Rattle.unit.specs.Calls.{without_reply as Calls·without_reply, small_
 use crate::clock::Clock;
 use crate::decide::Plan;
 use crate::fate::Fate;
-use crate::judging::{Ruling, Sizes, judge_read};
+use crate::judging::{Arrived, Ruling, Sizes, judge_read};
 use crate::owner::Sender;
 use crate::unit::Unit;
 use crate::{act, clock};
@@ -37,8 +37,13 @@ pub fn take_packet(
         reply: reply.len(),
     };
     let bytes = packets::bare(packet);
-    let ruling = judge_read(unit, bytes, end, link, sizes);
-    carry_out(ruling, unit, bytes, link, memory, reply)
+    let arrived = Arrived {
+        packet: bytes,
+        end,
+        link,
+    };
+    let ruling = judge_read(unit, arrived, sizes);
+    carry_out(ruling, unit, arrived, memory, reply)
 }
 
 // Takes a Time-Code: its low six bits.
@@ -83,17 +88,17 @@ fn ended(unit: Unit, fate: Fate) -> Answer
     without_reply(act::count(unit, fate), fate)
 }
 
-// Does what a packet was judged to come to, whose bytes these are.
+// Does what was judged that a packet comes to.
+// Kept: memory and reply buffer apart; handed on in a struct, what `follow` left of them was no longer tied to what this leaves (`returns-in-Planned`).
 fn carry_out(
     ruling: Ruling,
     unit: Unit,
-    bytes: &[u8],
-    link: u8,
+    arrived: Arrived,
     memory: &mut [u8],
     reply: &mut [u8],
 ) -> Answer
-    requires { GrantedBy ruling (length bytes.now) (length memory.old) (length reply.old) }
-    ensures { record { answer = result; memory = memory.new; reply = reply.new } ≡ done ruling unit bytes.now link (record { memory = memory.old; reply = reply.old }) }
+    requires { GrantedBy ruling (length arrived.packet.now) (length memory.old) (length reply.old) }
+    ensures { record { answer = result; memory = memory.new; reply = reply.new } ≡ done ruling unit arrived.entry.packet.now arrived.entry.link (record { memory = memory.old; reply = reply.old }) }
 {
     match ruling {
         Ruling::Ends(fate) => ended(unit, fate),
@@ -101,7 +106,7 @@ fn carry_out(
             let clock = clock::set_time(unit.clock, time);
             ended(Unit { clock, ..unit }, Fate::TimeTaken)
         }
-        Ruling::Planned(command, plan) => follow(plan, unit, command, bytes, link, memory, reply),
+        Ruling::Planned(command, plan) => follow(plan, unit, command, arrived, memory, reply),
     }
 }
 
@@ -110,20 +115,19 @@ fn follow(
     plan: Plan,
     unit: Unit,
     command: Command,
-    bytes: &[u8],
-    link: u8,
+    arrived: Arrived,
     memory: &mut [u8],
     reply: &mut [u8],
 ) -> Answer
-    requires { GrantedTo plan command.header command.path (length bytes.now) (length memory.old) (length reply.old) }
-    ensures { record { answer = result; memory = memory.new; reply = reply.new } ≡ acted plan unit command.header command.path bytes.now link (record { memory = memory.old; reply = reply.old }) }
+    requires { GrantedTo plan command.header command.path (length arrived.packet.now) (length memory.old) (length reply.old) }
+    ensures { record { answer = result; memory = memory.new; reply = reply.new } ≡ acted plan unit command.header command.path arrived.entry.packet.now arrived.entry.link (record { memory = memory.old; reply = reply.old }) }
 {
-    act::respond(plan, unit, command, link, memory, reply);
-    act::store(plan.action, bytes, memory);
+    act::respond(plan, unit, command, arrived.link, memory, reply);
+    act::store(plan.action, arrived.packet, memory);
     let sender = Sender {
         initiator: command.header.initiator,
         path: command.path,
-        link,
+        link: arrived.link,
     };
     let changed = act::change(unit, plan.action, sender);
     Answer {

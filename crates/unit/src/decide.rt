@@ -16,11 +16,12 @@ ghost use Rattle.unit.specs.Plan.{reply_count as Plan·reply_count, unanswered_f
 
 use crate::fate::{Fate, Offence, Status, status_byte};
 use crate::fields::{Named, swap_offence};
+use crate::judging::Arrived;
 use crate::owner::{Owner, Sender};
 use crate::unit::Unit;
 use crate::windows::Windows;
 use octets::Octets;
-use packets::{End, Header, Instruction, Kind, Path};
+use packets::{Command, End, Header, Instruction, Kind, Path};
 
 // ---- the first half: what the header decides
 
@@ -428,24 +429,18 @@ fn unanswered(status: Status) -> Fate
 }
 
 // Both halves, where all is at hand. The data are gone through only where their CRC bears on the status.
-pub(crate) fn decide(
-    unit: Unit,
-    h: Header,
-    path: Path,
-    packet: &[u8],
-    end: End,
-    link: u8,
-    room: usize,
-) -> Plan
-    requires { header_size h.instruction ≤ length packet.now }
-    ensures { result ≡ decided unit h path (record { packet = packet.now; end = end; link = link }) room }
+pub(crate) fn decide(unit: Unit, command: Command, arrived: Arrived, room: usize) -> Plan
+    requires { header_size command.header.instruction ≤ length arrived.packet.now }
+    ensures { result ≡ decided unit command.header command.path (record { packet = arrived.entry.packet.now; end = arrived.entry.end; link = arrived.entry.link }) room }
 {
-    let asked = Asked::from(h);
-    let first = asked.header_status(unit, path, link);
+    let path = command.path;
+    let asked = Asked::from(command.header);
+    let first = asked.header_status(unit, path, arrived.link);
     if first.is_err() {
         return asked.planned(path, first, Action::Nothing, room);
     }
-    let from = h.instruction.header_size();
+    let Arrived { packet, end, .. } = arrived;
+    let from = command.header.instruction.header_size();
     let crc = data_crc(&packet[from..], asked.wanted_count(), end);
     asked.decide_by_data(path, packet, crc, end, room)
 }

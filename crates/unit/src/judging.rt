@@ -28,37 +28,42 @@ pub enum Ruling {
     Planned(Command, Plan),
 }
 
+// What arrived, as it is read: a packet without its end, the end, and the link that it came on.
+#[derive(Clone, Copy)]
+pub(crate) struct Arrived<'a> {
+    pub packet: &'a [u8],
+    pub end: End,
+    pub link: u8,
+}
+
 // Judges a packet, without its end, that came on a link, with memory and a reply buffer of those sizes.
 pub fn judge(unit: Unit, packet: &[u8], end: End, link: u8, sizes: Sizes) -> Ruling
     ensures { result ≡ judged unit (as_read (record { packet = packet.now; end = end; link = link })) sizes }
 {
     let bytes = packets::bare(packet);
-    judge_read(unit, bytes, end, link, sizes)
+    let arrived = Arrived {
+        packet: bytes,
+        end,
+        link,
+    };
+    judge_read(unit, arrived, sizes)
 }
 
 // Judges a packet as it is read.
-pub(crate) fn judge_read(unit: Unit, packet: &[u8], end: End, link: u8, sizes: Sizes) -> Ruling
-    ensures { result ≡ judged unit (record { packet = packet.now; end = end; link = link }) sizes }
+pub(crate) fn judge_read(unit: Unit, arrived: Arrived, sizes: Sizes) -> Ruling
+    ensures { result ≡ judged unit (record { packet = arrived.entry.packet.now; end = arrived.entry.end; link = arrived.entry.link }) sizes }
 {
     if !unit.is_usable(sizes.memory) {
         return Ruling::Ends(Fate::Unusable);
     }
-    if !((1 <= link) & (link <= unit.links)) {
+    if !((1 <= arrived.link) & (arrived.link <= unit.links)) {
         return Ruling::Ends(Fate::NoSuchLink);
     }
-    match packets::read_packet(packet, unit.number) {
+    match packets::read_packet(arrived.packet, unit.number) {
         Err(why) => Ruling::Ends(Fate::Unread(why)),
-        Ok(Packet::Time) => time_ruling(unit, packet, end),
+        Ok(Packet::Time) => time_ruling(unit, arrived.packet, arrived.end),
         Ok(Packet::Command(command)) => {
-            let plan = decide(
-                unit,
-                command.header,
-                command.path,
-                packet,
-                end,
-                link,
-                sizes.reply,
-            );
+            let plan = decide(unit, command, arrived, sizes.reply);
             Ruling::Planned(command, plan)
         }
     }

@@ -1,21 +1,21 @@
--- `packets::reading::bare` meets its contract: too short to begin so, begins so, or does not.
-use mathlib.Core.Path.{◌∙◌}
-use Prim.Native.Nat.{◌-◌}
-use native.Mathlib.Omega.{arith}
-use lib.ListN.{length, drop, length-drop}
+-- `packets::reading::bare` meets its contract: it begins so, or does not.
+use Rattle.std.proofs.Common.{sym, ◌∙◌, length, drop, ◌-◌, arith, [], ◌∷◌}
+use Rattle.std.proofs.lemmas.Bool.{false≢true}
+use Rattle.std.proofs.lemmas.Bool.Decides.{Decides-eqb}
+use Rattle.std.proofs.lemmas.Slice.Eq.{starts_is}
+use lib.ListN.{length-drop}
 use lib.Seq.{take_all}
-use Rattle.packets.proofs.BareLaws.{bare_has, bare_lacks, bare_short}
+use Rattle.packets.proofs.BareLaws.{bare_begins, bare_other}
 use Rattle.packets.proofs.reading.bare.Goals as goal
 
-pub returns-then-packet-lt3 : goal.returns-then-packet-lt3
-returns-then-packet-lt3 c = bare_short c.args.packet.now (omega arith)
-
-pub returns-then-packet : goal.returns-then-packet
-returns-then-packet c =
+pub returns-then-starts_with : goal.returns-then-starts_with
+returns-then-starts_with c =
     let p = c.args.packet.now in
-    take_all (length p - 1) (drop 1 p) (omega (arith, length-drop 1 p)) ∙ bare_has p c.if-packet.true
+    let begins = (starts_is Decides-eqb p (0x00 ∷ 0xFE ∷ 0x03 ∷ []) c.starts_with.result c.starts_with.ensures.value).0 c.if-starts_with.true in
+    take_all (length p - 1) (drop 1 p) (omega (arith, length-drop 1 p)) ∙ bare_begins p (drop 3 p) begins
 
-pub returns : goal.returns
-returns c =
+pub returns-else-starts_with : goal.returns-else-starts_with
+returns-else-starts_with c =
     let p = c.args.packet.now in
-    bare_lacks p c.if-packet.false
+    let begins = (starts_is Decides-eqb p (0x00 ∷ 0xFE ∷ 0x03 ∷ []) c.starts_with.result c.starts_with.ensures.value).1 in
+    sym (bare_other p (λ q e. false≢true (sym c.if-starts_with.false ∙ begins q e)))
