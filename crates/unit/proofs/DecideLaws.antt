@@ -159,6 +159,18 @@ names_length h e =
     second_true (eqb h.extended 0 && codes) n
     (first_true (eqb h.extended 0 && codes && n) (leb (field_of h.address + field_count (kind_in h) h.length) (2 ^ 14)) e)
 
+-- the checks of fields, from what the code works out of a header that names them
+module _ (o : Owner) (h : Header) (path : Path) (link : ℕ) {kind : Kind} {count : ℕ} (of : kind ≡ kind_in h) (many : count ≡ field_count kind h.length)
+    (names : names_fields h ≡ true) where
+  pub one_is_missing : some is_missing (named h.address count) ≡ true → Err NoSuchField ≡ fields_status o h path link
+  unfolding fields_status
+  one_is_missing m = rw (names, rw (many, of) at m)
+
+  pub none_is_missing : {s : Status} → some is_missing (named h.address count) ≡ false → s ≡ offence_in kind h.address count
+      → or_else s (cond (not (is_allowed kind o h.initiator path link)) (Err NotOwner) (Ok tt)) ≡ fields_status o h path link
+  unfolding fields_status
+  none_is_missing m e = rw (names, rw (many, of) at m, rw (many, of) at e, of)
+
 -- a write to fields that passed has one word
 pub one_word : (o : Owner) (h : Header) (path : Path) (link : ℕ) → kind_in h ≡ Write → is_success (fields_status o h path link) ≡ true → h.length ≡ 4
 one_word o h path link k s =
