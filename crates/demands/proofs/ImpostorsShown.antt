@@ -1,4 +1,6 @@
 -- No impostor gets by: for each a witness that computes.
+use Rattle.std.proofs.Common.{Some, Ok}
+use Rattle.std.specs.Prelude.{Err}
 use mathlib.Core.Path.{◌≡◌, refl, sym, ◌∙◌, ap}
 use mathlib.Core.Bool.{true, false, ◌&&◌, and-false, or-false, false≢true}
 use mathlib.Core.Logic.{inl, inr}
@@ -16,7 +18,6 @@ use Rattle.packets.specs.Header.{parts_at}
 use Rattle.packets.specs.Reading.{bare, read_command, read_protocol, read_packet}
 use Rattle.packets.specs.Reply.{reply_with, reply_length, replied}
 use Rattle.packets.specs.declared.header.Header.{Header}
-use Rattle.packets.specs.declared.reading.Reading.TheVariants.{Refused}
 use Rattle.packets.specs.declared.reading.Refusal.TheVariants.{HeaderCrc}
 use Rattle.packets.proofs.ReadingLaws.{one_command, not_command}
 use Rattle.unit.specs.Fate.{fate_number, fate_status}
@@ -29,9 +30,7 @@ use Rattle.unit.specs.Act.{stored, data_for, replied_to, changed}
 use Rattle.unit.specs.Given.{Arrived, as_read, Lent}
 use Rattle.unit.specs.Calls.{Outcome, take_packet}
 use Rattle.unit.specs.declared.unit.Unit.{Unit as TheUnit}
-use Rattle.unit.specs.declared.fate.Status.TheVariants.{Success}
 use Rattle.unit.specs.declared.fate.Fate.TheVariants.{Replied}
-use Rattle.unit.specs.declared.fate.Told.TheVariants.{Byte}
 use Rattle.demands.proofs.Witnesses.{unit, memory, shorter, buffer, arrived, lent, write_0, write_0_bytes, write_4, read_past, wrong_crc}
 use Rattle.demands.specs.Terminal.{read_of, IsCommand, path_in, Call, packet, time_code, ticks, answer_to, after, fates_of}
 use Rattle.demands.specs.ReplyDue.{reply_due}
@@ -69,9 +68,9 @@ computed :
     (fate_number (take_packet (unit 0) (arrived write_0 1) (lent memory buffer)).answer.fate ≡ 20)
     × (get_or (take_packet (unit 0) (arrived write_0 1) (lent memory buffer)).memory 0 0 ≡ 0x61)
     × (get_or (take_packet (unit 1) (arrived write_0 1) (lent memory buffer)).memory 0 0 ≡ 0x61)
-    × (fate_status (take_packet (unit 0) (arrived read_past 1) (lent memory buffer)).answer.fate ≡ Byte 10)
+    × (fate_status (take_packet (unit 0) (arrived read_past 1) (lent memory buffer)).answer.fate ≡ Some 10)
     -- status 0 for that read
-    × (fate_status (replies_zero.packet (unit 0) (arrived read_past 1) (lent memory buffer)).answer.fate ≡ Byte 0)
+    × (fate_status (replies_zero.packet (unit 0) (arrived read_past 1) (lent memory buffer)).answer.fate ≡ Some 0)
     -- the second packet is not obeyed, and of two merged lists the first stores
     × (get_or (obeys_first.packet (unit 1) (arrived write_0 1) (lent memory buffer)).memory 0 0 ≡ 0x10)
     × (get_or (ends obeys_first start (x ∷ y ∷ [])).memory 0 0 ≡ 0x61)
@@ -83,7 +82,7 @@ computed :
     × (usable (unit 0) 8 ≡ true)
     × (usable (after gives_up (unit 0) (packet (arrived write_0 1) (lent shorter buffer) ∷ [])) 8 ≡ false)
     -- a wrong header CRC, and memory
-    × ((read_of (unit 0) (arrived wrong_crc 1)).reading ≡ Refused HeaderCrc)
+    × (read_of (unit 0) (arrived wrong_crc 1) ≡ Err HeaderCrc)
     × (get_or (clears_memory.packet (unit 0) (arrived wrong_crc 1) (lent memory buffer)).memory 0 0 ≡ 0)
 unfolding take_packet bare judged decided_on decided_by_data planned_for header_status opening_status span_status span_size is_authorised wanted_count data_status reply_count stored data_for replied_to changed counted_for usable usable_unit read_packet read_protocol read_command kind_of without_leading_zeros or_one_zero path_of reply_length replied reply_with crc mirrored bits remainder message modulo ends after fates_of count_of
 computed = (refl, refl, refl, refl, refl, refl, refl, refl, refl, refl, refl, refl, refl, refl)
@@ -98,7 +97,7 @@ refuses_all_shut_out meets =
 replies_zero_shut_out : ByteByByte replies_zero → ⊥
 replies_zero_shut_out meets =
     let e = ap (λ (o : Outcome). fate_status o.answer.fate) (meets.0 (unit 0) (arrived read_past 1) (lent memory buffer)) in
-    let f : Byte 0 ≡ Byte 10 = sym computed.4 ∙ e ∙ computed.3 in
+    let f : Some 0 ≡ Some 10 = sym computed.4 ∙ e ∙ computed.3 in
     omega (arith, ap byte_in f)
 
 does_nothing_shut_out : ByteByByte does_nothing → ⊥
@@ -125,7 +124,7 @@ refers_4 i = refl
 one_only : (c d : Sent) → ((i : ℕ) → refers start c i ≡ true → refers start d i ≡ false) → Clear start (c ∷ []) (d ∷ [])
 unfolding stores
 one_only c d apart i e =
-    rw (apart i (second_true (is_store (read_of (unit 0) c.arrived).reading) (refers start c i) (sym (or-false (stores start c i)) ∙ e)))
+    rw (apart i (second_true (is_store (read_of (unit 0) c.arrived)) (refers start c i) (sym (or-false (stores start c i)) ∙ e)))
 
 apart : Apart start (x ∷ []) (y ∷ [])
 apart = (
@@ -173,17 +172,17 @@ invents_counters_shut_out history-of =
 -- ---- a reply that is only claimed
 
 -- the write is replied to with status 0, and that reply has eight bytes
-due : (h : Header) → IsCommand (unit 0) (arrived write_0 1) h → length (reply_due (unit 0) (arrived write_0 1) (lent memory buffer) h Success) ≡ 8
+due : (h : Header) → IsCommand (unit 0) (arrived write_0 1) h → length (reply_due (unit 0) (arrived write_0 1) (lent memory buffer) h (Ok tt)) ≡ 8
 unfolding take_packet bare judged decided_on decided_by_data planned_for header_status opening_status span_status span_size is_authorised wanted_count data_status reply_count stored data_for replied_to changed counted_for usable usable_unit read_packet read_protocol read_command kind_of without_leading_zeros or_one_zero path_of reply_length replied reply_with crc mirrored bits remainder message modulo
 due h is =
-    let same = one_command (read_of (unit 0) (arrived write_0 1)).reading (parts_at write_0 4) h refl is in
-    let eight : length (reply_due (unit 0) (arrived write_0 1) (lent memory buffer) (parts_at write_0 4) Success) ≡ 8 = refl in
-    ap (λ (k : Header). length (reply_due (unit 0) (arrived write_0 1) (lent memory buffer) k Success)) same ∙ eight
+    let same = one_command (read_of (unit 0) (arrived write_0 1)) (parts_at write_0 4) h refl is in
+    let eight : length (reply_due (unit 0) (arrived write_0 1) (lent memory buffer) (parts_at write_0 4) (Ok tt)) ≡ 8 = refl in
+    ap (λ (k : Header). length (reply_due (unit 0) (arrived write_0 1) (lent memory buffer) k (Ok tt))) same ∙ eight
 
 replies_nothing_shut_out : RowByRow replies_nothing → ⊥
 unfolding take_packet bare judged decided_on decided_by_data planned_for header_status opening_status span_status span_size is_authorised wanted_count data_status reply_count stored data_for replied_to changed counted_for usable usable_unit read_packet read_protocol read_command kind_of without_leading_zeros or_one_zero path_of reply_length replied reply_with crc mirrored bits remainder message modulo
 replies_nothing_shut_out meets =
-    let row : Leaves (Replied Success) (unit 0) (arrived write_0 1) (lent memory buffer) (replies_nothing.packet (unit 0) (arrived write_0 1) (lent memory buffer)) =
+    let row : Leaves (Replied (Ok tt)) (unit 0) (arrived write_0 1) (lent memory buffer) (replies_nothing.packet (unit 0) (arrived write_0 1) (lent memory buffer)) =
     meets (unit 0) (arrived write_0 1) (lent memory buffer) write_0_bytes in
     let reply = row.2 in
     omega (arith, reply.3.1, due reply.0 reply.1)
@@ -205,7 +204,7 @@ clears_memory_shut_out only = go (only (unit 0) (arrived wrong_crc 1) (lent memo
 
     go : KeepsOrStores (unit 0) (arrived wrong_crc 1) (lent memory buffer) o → ⊥
     go (inl same) = let e = ap (λ (m : List ℕ). get_or m 0 0) same in omega (arith, e, computed.13)
-    go (inr stores) = not_command (Refused HeaderCrc) (omega arith) (sym computed.12 ∙ stores.1)
+    go (inr stores) = not_command (Err HeaderCrc) (omega arith) (sym computed.12 ∙ stores.1)
 
 -- ---- what let the last three by
 
@@ -229,8 +228,8 @@ one_length_lets_by u n (c ∷ cs) e l = one_length_lets_by (answer_to gives_up u
 not_fifteen : (u : TheUnit) (p : Arrived) (lent : Lent) (h : Header) → IsCommand u p h → eqb (fate_number (take_packet u p lent).answer.fate) 15 ≡ false
 not_fifteen u p lent h is =
     packet_is u p lent (λ o. eqb (fate_number o.answer.fate) 15 ≡ false) (λ e. refl) (λ e f. refl)
-    (λ e f why g. absurd (not_command (Refused why) (omega arith) (sym g ∙ is))) (λ e f g. refl) (λ e f g t. refl)
-    (λ e f k g. command_fate u k (path_in u p) (as_read p) lent (λ f. eqb (fate_number f) 15 ≡ false) refl (λ s. refl) (λ s e. refl) refl)
+    (λ e f why g. absurd (not_command (Err why) (omega arith) (sym g ∙ is))) (λ e f g. refl) (λ e f g t. refl)
+    (λ e f k g. command_fate u k (path_in u p) (as_read p) lent (λ f. eqb (fate_number f) 15 ≡ false) refl (λ s. refl) (λ o. refl) refl)
 
 pub refused_alone_lets_by : RefusedAloneLetsBy
 refused_alone_lets_by u p lent h is guarded status = rw (not_fifteen u p lent h is) (refused_changes_none u p lent h is guarded status)

@@ -1,4 +1,6 @@
 -- Names are kept: a command that passed the checks has named fields of the table only, and its span is one window's.
+use Rattle.std.proofs.Common.{Option, Some, None, Err, Ok}
+use Rattle.std.specs.Prelude.{Ok, Err}
 use mathlib.Core.Path.{◌≡◌, refl, sym, ◌∙◌, ap}
 use mathlib.Core.Bool.{Bool, true, false, cond, ◌&&◌, false≢true, or-true}
 use mathlib.Core.Logic.{◌≢◌}
@@ -12,20 +14,18 @@ use Rattle.octets.proofs.PlaceLaws.{first_true, second_true}
 use Rattle.packets.specs.Header.{kind_in}
 use Rattle.packets.specs.declared.header.Header.{Header}
 use Rattle.packets.specs.declared.path.Path.{Path}
-use Rattle.packets.specs.declared.reading.Reading.TheVariants.{Refused, Time}
+use Rattle.packets.specs.declared.reading.Packet.TheVariants.{Time}
 use Rattle.packets.proofs.ReadingLaws.{not_command, one_command}
+use Rattle.unit.proofs.FateLaws.{success_byte}
 use Rattle.unit.specs.Some.{some}
-use Rattle.unit.specs.Fate.{byte_of, is_success, fate_number, fate_status}
+use Rattle.unit.specs.Fate.{Status, byte_of, is_success, fate_number, fate_status}
 use Rattle.unit.specs.Fields.{field_of, above_field, above, named, missing, row_of, is_missing}
 use Rattle.unit.specs.Given.{Arrived, as_read, Lent}
 use Rattle.unit.specs.Decide.{opening_status, field_count, names_fields, fields_status, header_status}
 use Rattle.unit.specs.Plan.{unanswered_fate}
 use Rattle.unit.specs.Calls.{Outcome, take_packet}
-use Rattle.unit.specs.declared.fate.Status.{Status}
-use Rattle.unit.specs.declared.fate.Status.TheVariants.{NoSuchField}
+use Rattle.unit.specs.declared.fate.Offence.TheVariants.{NoSuchField}
 use Rattle.unit.specs.declared.fate.Fate.TheVariants.{Replied}
-use Rattle.unit.specs.declared.fate.Told.{Told}
-use Rattle.unit.specs.declared.fate.Told.TheVariants.{Nothing, Byte}
 use Rattle.unit.specs.declared.unit.Unit.{Unit as TheUnit}
 use Rattle.unit.proofs.DecideLaws.{memory_passed, fields_passed, span_passed, named_passed}
 use Rattle.unit.proofs.CommandLaws.{take_command, packet_is, command_is}
@@ -82,17 +82,18 @@ names_missing h n = some_missing h.address (field_count (kind_in h) h.length) n.
 
 -- ---- status 0
 
-abbrev pub byte_in : Told → ℕ
-byte_in t = elim t [ Nothing ↦ 1 | Byte b ↦ b ]
+abbrev pub byte_in : Option ℕ → ℕ
+byte_in t = elim t [ None ↦ 1 | Some b ↦ b ]
 
 -- what a header refused, or what has no status, has not status 0
-pub refused_other : (s : Status) → is_success s ≡ false → fate_status (Replied s) ≢ Byte 0
-refused_other s e z = false≢true (sym e ∙ eq-eqb (byte_of s) 0 (ap byte_in z))
+pub refused_other : (s : Status) → is_success s ≡ false → fate_status (Replied s) ≢ Some 0
+refused_other s e z = false≢true (sym e ∙ success_byte s ∙ eq-eqb (byte_of s) 0 (ap byte_in z))
 
-pub silent_other : (s : Status) → is_success s ≡ false → fate_status (unanswered_fate s) ≢ Byte 0
-silent_other s e = rw e (refused_other s e)
+pub silent_other : (s : Status) → is_success s ≡ false → fate_status (unanswered_fate s) ≢ Some 0
+silent_other (Ok done) e = absurd (false≢true (sym e))
+silent_other (Err offence) e = refused_other (Err offence) e
 
-pub no_status : Nothing ≢ Byte 0
+pub no_status : ◌≢◌ {A = Option ℕ} None (Some 0)
 no_status z = omega (arith, ap byte_in z)
 
 -- ---- memory
@@ -101,13 +102,13 @@ pub obeyed_in_window : ObeyedInWindow ours
 obeyed_in_window u p lent h is rmap =
     packet_is u p lent Q (λ e z. absurd (no_status z)) (λ e f z. absurd (no_status z)) (λ e f why g z. absurd (no_status z)) (λ e f g z. absurd (no_status z))
     (λ e f g t z. absurd (no_status z))
-    (λ e f k g. command k (one_command (read_of u p).reading h k is g))
+    (λ e f k g. command k (one_command (read_of u p) h k is g))
   where
     path : Path
     path = path_in u p
 
     Q : Outcome → Type 0
-    Q o = fate_status o.answer.fate ≡ Byte 0 → WindowWithRight u h
+    Q o = fate_status o.answer.fate ≡ Some 0 → WindowWithRight u h
 
     command : (k : Header) → k ≡ h → Q (take_command u k path (as_read p) lent)
     command k e = rw e (
@@ -136,7 +137,7 @@ module _ (u : TheUnit) (p : Arrived) (lent : Lent) (h : Header) (is : IsCommand 
       false≢true (sym (named_passed u.owner h path p.link (fields_passed u h path p.link other a)).1 ∙ names_missing h lacks)
 
   abbrev NotZero : Outcome → Type 0
-  NotZero o = fate_status o.answer.fate ≢ Byte 0
+  NotZero o = fate_status o.answer.fate ≢ Some 0
 
   command_refused : NotZero (take_command u h path (as_read p) lent)
   command_refused =
@@ -145,9 +146,9 @@ module _ (u : TheUnit) (p : Arrived) (lent : Lent) (h : Header) (is : IsCommand 
 
   -- by F1, if nothing before it refused it
   abbrev SaysF1 : Outcome → Type 0
-  SaysF1 o = (fate_number o.answer.fate ≡ 3 → ⊥) → fate_status o.answer.fate ≡ Byte 0xF1
+  SaysF1 o = (fate_number o.answer.fate ≡ 3 → ⊥) → fate_status o.answer.fate ≡ Some 0xF1
 
-  is_f1 : is_success (opening_status h 0x00 0xFE) ≡ true → names_fields h ≡ true → header_status u h path p.link ≡ NoSuchField
+  is_f1 : is_success (opening_status h 0x00 0xFE) ≡ true → names_fields h ≡ true → header_status u h path p.link ≡ Err NoSuchField
   unfolding header_status fields_status
   is_f1 o n = rw (ne_eqb h.protocol 0x01 other, o, n, names_missing h lacks)
 
@@ -158,21 +159,21 @@ module _ (u : TheUnit) (p : Arrived) (lent : Lent) (h : Header) (is : IsCommand 
 
 pub missing_refused : MissingRefused ours
 missing_refused u p lent h is fields lacks =
-    packet_is u p lent (λ o. fate_status o.answer.fate ≢ Byte 0) (λ e. no_status) (λ e f. no_status) (λ e f why g. no_status) (λ e f g. no_status)
+    packet_is u p lent (λ o. fate_status o.answer.fate ≢ Some 0) (λ e. no_status) (λ e f. no_status) (λ e f why g. no_status) (λ e f g. no_status)
     (λ e f g t. no_status)
-    (λ e f k g. rw (one_command (read_of u p).reading h k is g) (command_refused u p lent h is fields lacks))
+    (λ e f k g. rw (one_command (read_of u p) h k is g) (command_refused u p lent h is fields lacks))
 
 pub missing_is_f1 : MissingIsF1 ours
 missing_is_f1 u p lent h is fields lacks works there o n fits =
     packet_is u p lent (SaysF1 u p lent h is fields lacks) (λ e. absurd (false≢true (sym e ∙ works))) (λ e f. absurd (false≢true (sym f ∙ there)))
-    (λ e f why g. absurd (not_command (Refused why) (omega arith) (sym g ∙ is))) (λ e f g. absurd (not_command Time (omega arith) (sym g ∙ is)))
-    (λ e f g t. absurd (not_command Time (omega arith) (sym g ∙ is)))
-    (λ e f k g. rw (one_command (read_of u p).reading h k is g) (command_f1 u p lent h is fields lacks o n)) room
+    (λ e f why g. absurd (not_command (Err why) (omega arith) (sym g ∙ is))) (λ e f g. absurd (not_command (Ok Time) (omega arith) (sym g ∙ is)))
+    (λ e f g t. absurd (not_command (Ok Time) (omega arith) (sym g ∙ is)))
+    (λ e f k g. rw (one_command (read_of u p) h k is g) (command_f1 u p lent h is fields lacks o n)) room
   where
     room : fate_number (take_packet u p lent).answer.fate ≡ 3 → ⊥
     room three =
         let due = ((one_two_three u p lent).2.0 three).2 in
-        let same = one_command (read_of u p).reading h due.0 is due.1 in
+        let same = one_command (read_of u p) h due.0 is due.1 in
         let long : length lent.reply < length_due u p h = rw same at due.3 in
         let short = fits (rw same at due.2) in
         omega (arith, long, short)

@@ -1,4 +1,6 @@
 -- Demand 1, which number is given, holds: 1, 2 and 3 exactly where they are due, the small calls, and the list of numbers and statuses.
+use Rattle.std.proofs.Common.{Ok, Err}
+use Rattle.std.specs.Prelude.{Ok, Err}
 use mathlib.Core.Path.{◌≡◌, refl, sym, ◌∙◌}
 use mathlib.Core.Bool.{true, false≢true}
 use mathlib.Core.Logic.{inl, inr, ◌↔◌}
@@ -8,11 +10,11 @@ use lib.Dec.{eqb}
 use lib.ListN.{length}
 use Rattle.packets.specs.Reading.{number_of}
 use Rattle.packets.specs.declared.header.Header.{Header}
-use Rattle.packets.specs.declared.reading.Reading.TheVariants.{Refused, Time}
+use Rattle.packets.specs.declared.reading.Packet.TheVariants.{Time}
 use Rattle.packets.specs.declared.reading.Refusal.{Refusal}
 use Rattle.packets.specs.declared.reading.Refusal.TheVariants.{Incomplete, UnknownProtocol, ExtendedProtocol, Reply, HeaderCrc}
 use Rattle.unit.specs.Some.{some}
-use Rattle.unit.specs.Fate.{byte_of, fate_number, fate_status}
+use Rattle.unit.specs.Fate.{Status, byte_of, fate_number, fate_status}
 use Rattle.unit.specs.Clock.{after_code, after_ticks}
 use Rattle.unit.specs.Usable.{usable}
 use Rattle.unit.specs.Act.{with_clock}
@@ -20,9 +22,8 @@ use Rattle.unit.specs.Given.{Arrived, as_read, Lent}
 use Rattle.unit.specs.Decide.{all_at_hand}
 use Rattle.unit.specs.Judge.{is_link}
 use Rattle.unit.specs.Calls.{take_packet, small_call, take_time_code, take_ticks}
-use Rattle.unit.specs.declared.fate.Status.{Status}
-use Rattle.unit.specs.declared.fate.Status.TheVariants.{Success, UnusedCode, WrongKey, DataCrc, EarlyEop, TooMuchData, EndedByEep, VerifyOverrun}
-use Rattle.unit.specs.declared.fate.Status.TheVariants.{NotAuthorised, RmwLength, WrongAddress, NotOwner, NoSuchField, ReadOnlyField, PlainDeviceId}
+use Rattle.unit.specs.declared.fate.Offence.TheVariants.{UnusedCode, WrongKey, DataCrc, EarlyEop, TooMuchData, EndedByEep, VerifyOverrun}
+use Rattle.unit.specs.declared.fate.Offence.TheVariants.{NotAuthorised, RmwLength, WrongAddress, NotOwner, NoSuchField, ReadOnlyField, PlainDeviceId}
 use Rattle.unit.specs.declared.fate.Fate.{Fate}
 use Rattle.unit.specs.declared.fate.Fate.TheVariants.{Unread}
 use Rattle.unit.specs.declared.clock.Clock.{Clock}
@@ -62,7 +63,7 @@ module _ (u : TheUnit) (p : Arrived) (lent : Lent) where
       let status = plan_status u h path (all_at_hand h (as_read p)) p.end p.link (length lent.reply) in (
         λ n. let x = plan.0 n in (h, is, x.0, rw status at x.1),
         λ too.
-            let same = one_command (read_of u p).reading h too.0 is too.1 in
+            let same = one_command (read_of u p) h too.0 is too.1 in
             plan.1 (rw same at too.2, rw status (rw same at too.3)),
       )
 
@@ -79,11 +80,11 @@ module _ (u : TheUnit) (p : Arrived) (lent : Lent) where
         (λ n. (e, f), λ g. refl),
         (λ n. absurd (omega (arith, n)), λ g. absurd (false≢true (sym f ∙ g.1))),
       ))
-      (λ e f why g. never e f (number_of why) (unread_number why).0 (λ h is. not_command (Refused why) (omega arith) (sym g ∙ is)))
-      (λ e f g. never e f 16 (omega arith) (λ h is. not_command Time (omega arith) (sym g ∙ is)))
-      (λ e f g t. never e f 19 (omega arith) (λ h is. not_command Time (omega arith) (sym g ∙ is)))
+      (λ e f why g. never e f (number_of why) (unread_number why).0 (λ h is. not_command (Err why) (omega arith) (sym g ∙ is)))
+      (λ e f g. never e f 16 (omega arith) (λ h is. not_command (Ok Time) (omega arith) (sym g ∙ is)))
+      (λ e f g t. never e f 19 (omega arith) (λ h is. not_command (Ok Time) (omega arith) (sym g ∙ is)))
       (λ e f h g. later e f (fate_number (take_command u h (path_in u p) (as_read p) lent).answer.fate)
-      (command_fate u h (path_in u p) (as_read p) lent (λ f. 3 ≤ fate_number f) (omega arith) (λ s. omega arith) (λ s e. omega arith) (omega arith))
+      (command_fate u h (path_in u p) (as_read p) lent (λ f. 3 ≤ fate_number f) (omega arith) (λ s. omega arith) (λ o. omega arith) (omega arith))
       (command_three h g))
 
 pub one_two_three : OneTwoThree ours
@@ -109,21 +110,21 @@ small_rows = (
 -- ---- the numbers and statuses
 
 status_listed : (s : Status) → some (eqb (byte_of s)) statuses ≡ true
-status_listed Success = refl
-status_listed UnusedCode = refl
-status_listed WrongKey = refl
-status_listed DataCrc = refl
-status_listed EarlyEop = refl
-status_listed TooMuchData = refl
-status_listed EndedByEep = refl
-status_listed VerifyOverrun = refl
-status_listed NotAuthorised = refl
-status_listed RmwLength = refl
-status_listed WrongAddress = refl
-status_listed NotOwner = refl
-status_listed NoSuchField = refl
-status_listed ReadOnlyField = refl
-status_listed PlainDeviceId = refl
+status_listed (Ok done) = refl
+status_listed (Err UnusedCode) = refl
+status_listed (Err WrongKey) = refl
+status_listed (Err DataCrc) = refl
+status_listed (Err EarlyEop) = refl
+status_listed (Err TooMuchData) = refl
+status_listed (Err EndedByEep) = refl
+status_listed (Err VerifyOverrun) = refl
+status_listed (Err NotAuthorised) = refl
+status_listed (Err RmwLength) = refl
+status_listed (Err WrongAddress) = refl
+status_listed (Err NotOwner) = refl
+status_listed (Err NoSuchField) = refl
+status_listed (Err ReadOnlyField) = refl
+status_listed (Err PlainDeviceId) = refl
 
 abbrev Lists : Fate → Type 0
 Lists f = (some (eqb (fate_number f)) numbers ≡ true) × Carries (fate_number f) (fate_status f)
@@ -140,4 +141,4 @@ listed u p lent =
     packet_is u p lent (λ o. Lists o.answer.fate) (λ e. (refl, refl)) (λ e f. (refl, refl)) (λ e f why g. unread_listed why)
     (λ e f g. (refl, refl)) (λ e f g t. (refl, refl))
     (λ e f h g. command_fate u h (path_in u p) (as_read p) lent Lists (refl, refl) (λ s. (refl, (refl, status_listed s)))
-    (λ s e. (refl, (refl, status_listed s))) (refl, (refl, refl)))
+    (λ o. (refl, (refl, status_listed (Err o)))) (refl, (refl, refl)))

@@ -1,5 +1,9 @@
 -- Demand 1 leaves no room: 1, 2 and 3 are given exactly where they are due, each other row says how the packet was read and which status it is due, and with that
 -- all that it leaves. So the rows together are a function, `due`; what meets them is its value; and ours meets them too.
+use Rattle.std.proofs.Common.{Ok, Err}
+use Rattle.std.specs.Prelude.{Result, Ok, Err}
+use Rattle.packets.specs.declared.time.Time.{Time as TheTime}
+use Rattle.std.specs.Prelude.{Option, Some, None}
 use mathlib.Core.Path.{◌≡◌, refl, sym, ◌∙◌, ap}
 use mathlib.Core.Bool.{Bool, true, false, cond, false≢true, not-eq-not}
 use mathlib.Core.Logic.{inl, inr}
@@ -15,20 +19,16 @@ use Rattle.packets.specs.Header.{kind_in}
 use Rattle.packets.specs.Reading.{number_of}
 use Rattle.packets.specs.Time.{read_time}
 use Rattle.packets.specs.declared.header.Header.{Header}
-use Rattle.packets.specs.declared.reading.Reading.{Reading}
-use Rattle.packets.specs.declared.reading.Reading.TheVariants.{Refused, Time, Command}
-use Rattle.packets.specs.declared.time.TimeReading.{TimeReading}
-use Rattle.packets.specs.declared.time.TimeReading.TheVariants.{ThrownAway, Taken}
-use Rattle.unit.specs.Fate.{is_success, fate_number}
+use Rattle.unit.specs.Fate.{Status, is_success, fate_number}
+use Rattle.packets.specs.declared.reading.Packet.{Packet}
+use Rattle.packets.specs.declared.reading.Refusal.{Refusal}
+use Rattle.packets.specs.declared.reading.Packet.TheVariants.{Time, Command}
 use Rattle.unit.specs.Clock.{after_time, after_code, after_ticks}
 use Rattle.unit.specs.Usable.{usable}
 use Rattle.unit.specs.Act.{with_clock}
 use Rattle.unit.specs.Given.{Arrived, as_read, Lent}
 use Rattle.unit.specs.Judge.{is_link}
 use Rattle.unit.specs.Calls.{Outcome, without_reply, leaving, take_packet, small_call, take_time_code, take_ticks}
-use Rattle.unit.specs.declared.fate.Status.{Status}
-use Rattle.unit.specs.declared.fate.Status.TheVariants.{Success, UnusedCode, WrongKey, DataCrc, EarlyEop, TooMuchData, EndedByEep, VerifyOverrun}
-use Rattle.unit.specs.declared.fate.Status.TheVariants.{NotAuthorised, RmwLength, WrongAddress, NotOwner, NoSuchField, ReadOnlyField, PlainDeviceId}
 use Rattle.unit.specs.declared.fate.Fate.{Fate}
 use Rattle.unit.specs.declared.fate.Fate.TheVariants.{TimeChanged, Unusable, NoSuchLink, NoRoom, Unread, TimeThrownAway, NotObeyed, Obeyed, TimeTaken, Replied}
 use Rattle.unit.specs.declared.clock.Clock.{Clock}
@@ -46,22 +46,9 @@ use Rattle.demands.proofs.NumbersHold.{one_two_three}
 -- ---- statuses and fates by their numbers
 
 -- status 0 is one status
-zero_is : (s : Status) → is_success s ≡ true → s ≡ Success
-zero_is Success e = refl
-zero_is UnusedCode e = absurd (false≢true e)
-zero_is WrongKey e = absurd (false≢true e)
-zero_is DataCrc e = absurd (false≢true e)
-zero_is EarlyEop e = absurd (false≢true e)
-zero_is TooMuchData e = absurd (false≢true e)
-zero_is EndedByEep e = absurd (false≢true e)
-zero_is VerifyOverrun e = absurd (false≢true e)
-zero_is NotAuthorised e = absurd (false≢true e)
-zero_is RmwLength e = absurd (false≢true e)
-zero_is WrongAddress e = absurd (false≢true e)
-zero_is NotOwner e = absurd (false≢true e)
-zero_is NoSuchField e = absurd (false≢true e)
-zero_is ReadOnlyField e = absurd (false≢true e)
-zero_is PlainDeviceId e = absurd (false≢true e)
+zero_is : (s : Status) → is_success s ≡ true → s ≡ Ok tt
+zero_is (Ok done) e = refl
+zero_is (Err offence) e = absurd (false≢true e)
 
 -- 0 and 1 are one fate each
 low_fate : (f : Fate) → fate_number f < 2 → f ≡ cond (eqb (fate_number f) 0) TimeChanged Unusable
@@ -71,7 +58,7 @@ low_fate NoSuchLink l = absurd (omega (arith, l))
 low_fate NoRoom l = absurd (omega (arith, l))
 low_fate (Unread why) l = absurd (omega (arith, l, (unread_number why).0))
 low_fate TimeThrownAway l = absurd (omega (arith, l))
-low_fate (NotObeyed s) l = absurd (omega (arith, l))
+low_fate (NotObeyed offence) l = absurd (omega (arith, l))
 low_fate Obeyed l = absurd (omega (arith, l))
 low_fate TimeTaken l = absurd (omega (arith, l))
 low_fate (Replied s) l = absurd (omega (arith, l))
@@ -109,26 +96,26 @@ module _ (u : TheUnit) (p : Arrived) (lent : Lent) where
       (placed 0 (reply_due u p lent h s) lent.reply) (length (reply_due u p lent h s))
 
   abbrev silent_due : Header → Status → Outcome
-  silent_due h s =
-      cond (is_success s) (ending Obeyed (counted_as 18 (unit_due h)) (memory_due h) lent.reply 0)
-      (ending (NotObeyed s) (counted_as 17 u) (refused_on h s p lent) lent.reply 0)
+  silent_due h (Ok done) = ending Obeyed (counted_as 18 (unit_due h)) (memory_due h) lent.reply 0
+  silent_due h (Err offence) = ending (NotObeyed offence) (counted_as 17 u) (refused_on h (Err offence) p lent) lent.reply 0
 
   -- a time packet
-  abbrev time_due : TimeReading → Outcome
-  time_due ThrownAway = ending TimeThrownAway (counted_as 16 u) lent.memory lent.reply 0
-  time_due (Taken t) = ending TimeTaken (counted_as 19 (with_clock u (after_time u.clock t))) lent.memory lent.reply 0
+  abbrev time_due : Option TheTime → Outcome
+  time_due None = ending TimeThrownAway (counted_as 16 u) lent.memory lent.reply 0
+  time_due (Some t) = ending TimeTaken (counted_as 19 (with_clock u (after_time u.clock t))) lent.memory lent.reply 0
 
   -- past 1 and 2, by its reading
-  abbrev due_as : Reading → Outcome
-  due_as (Refused why) = ending (Unread why) (counted_as (number_of why) u) lent.memory lent.reply 0
-  due_as Time = time_due (read_time (as_read p).packet p.end u.logical u.number)
-  due_as (Command h) =
+  abbrev due_as : Result Packet Refusal → Outcome
+  due_as (Err why) = ending (Unread why) (counted_as (number_of why) u) lent.memory lent.reply 0
+  due_as (Ok Time) = time_due (read_time (as_read p).packet p.end u.logical u.number)
+  due_as (Ok (Command c)) =
+      let h = c.header in
       cond (wants_reply h.instruction)
       (cond (ltb (length lent.reply) (length_due u p h)) (leaving (without_reply NoRoom u) lent) (spoken_due h (status_due u p h)))
       (silent_due h (status_due u p h))
 
-  abbrev read : Reading
-  read = (read_of u p).reading
+  abbrev read : Result Packet Refusal
+  read = read_of u p
 
   abbrev works : Bool
   works = usable u (length lent.memory)
@@ -182,7 +169,7 @@ module _ (u : TheUnit) (p : Arrived) (lent : Lent) where
             rw (one_command read k.0 h k.1 row.2.1) (k.3, rw (rw k.3 at e) (k.5, rw k.3 at k.6))
 
     -- past them the reading decides
-    by_reading : (f : Fate) → 3 < fate_number f → Exactly u p lent (fate_number f) → {r : Reading} → read ≡ r → o ≡ due_as r → o ≡ due
+    by_reading : (f : Fate) → 3 < fate_number f → Exactly u p lent (fate_number f) → {r : Result Packet Refusal} → read ≡ r → o ≡ due_as r → o ≡ due
     by_reading f high exactly is e = rw ((past f high exactly).0, (past f high exactly).1, is) e
 
     -- row by row
@@ -200,11 +187,11 @@ module _ (u : TheUnit) (p : Arrived) (lent : Lent) where
         by_reading (Unread why) (omega (arith, (unread_number why).0)) exactly is (outcome_is o e unit memory reply)
     is_due TimeThrownAway e exactly ((is, time), (unit, memory, reply)) =
         by_reading TimeThrownAway (omega arith) exactly is (rw time (outcome_is o e unit memory reply))
-    is_due (NotObeyed s) e exactly ((h, is, asked, d, f, unit, memory), reply) =
-        by_reading (NotObeyed s) (omega arith) exactly is (rw (asked, rw d at f) (outcome_is o (e ∙ ap NotObeyed d) unit (rw d at memory) reply))
+    is_due (NotObeyed offence) e exactly ((h, is, asked, d, f, unit, memory), reply) =
+        by_reading (NotObeyed offence) (omega arith) exactly is (rw (asked, ← d) (outcome_is o e unit memory reply))
     is_due Obeyed e exactly (k, reply) =
         let x = obeyed 18 false k in
-        by_reading Obeyed (omega arith) exactly k.1 (rw (k.2, k.3) (outcome_is o e x.0 x.1 reply))
+        by_reading Obeyed (omega arith) exactly k.1 (rw (k.2, zero_is (status_due u p k.0) k.3) (outcome_is o e x.0 x.1 reply))
     is_due TimeTaken e exactly (t, (is, time), unit, memory, reply) =
         by_reading TimeTaken (omega arith) exactly is (rw time (outcome_is o e unit memory reply))
     is_due (Replied s) e exactly row =

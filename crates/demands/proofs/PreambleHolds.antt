@@ -1,9 +1,12 @@
 -- The newer preamble: what is taken and what it shows, and the receiver of before.
+use Rattle.std.specs.Prelude.{Result, Ok, Err}
+use Rattle.std.specs.Prelude.{Some, None}
 use mathlib.Core.Path.{◌≡◌, refl, sym, ap, ◌∙◌}
 use mathlib.Core.Bool.{Bool, true, false, cond, ◌&&◌, and-true, and-false}
 use mathlib.Core.Logic.{◌⊎◌, inl, inr, ⊎_elim, ◌≢◌}
 use mathlib.Core.List.{List, [], ◌∷◌}
 use Prim.Native.Nat.{ℕ, ◌+◌, ◌-◌, ◌%◌, ◌^◌, ◌≤◌}
+use Rattle.std.proofs.Common.{Some}
 use native.Mathlib.Omega.{arith}
 use native.Mathlib.Decide.{ℕ_discrete, dec_le}
 use native.Mathlib.Nat.{lt_of_not-le}
@@ -13,15 +16,15 @@ use lib.ListN.{length, get_or, get_or-eq_default}
 use Rattle.octets.specs.Places.{part}
 use Rattle.octets.specs.Numbers.{Digits}
 use Rattle.octets.proofs.NumberLaws.{digits_at}
-use Rattle.packets.specs.Reading.{bare, time_packet, read_packet}
+use Rattle.packets.specs.Reading.{bare, read_packet}
 use Rattle.packets.specs.Time.{when_number, time_packet_of, added_seconds, added_fraction, read_time}
 use Rattle.packets.specs.declared.reading.End.{End}
-use Rattle.packets.specs.declared.reading.Reading.{Reading}
-use Rattle.packets.specs.declared.reading.Reading.TheVariants.{Refused, Time, Command}
+use Rattle.packets.specs.declared.reading.Packet.{Packet}
+use Rattle.packets.specs.declared.reading.Refusal.{Refusal}
+use Rattle.packets.specs.declared.reading.Packet.TheVariants.{Time, Command}
 use Rattle.packets.specs.declared.time.Time.{Time as TheTime}
 use Rattle.packets.specs.declared.time.When.{When}
 use Rattle.packets.specs.declared.time.When.TheVariants.{AtWrap, AtOnce}
-use Rattle.packets.specs.declared.time.TimeReading.TheVariants.{ThrownAway, Taken}
 use Rattle.packets.proofs.ReadingLaws.{packet_time, time_bare}
 use Rattle.packets.proofs.BareLaws.{bare_other}
 use Rattle.packets.proofs.TimeLaws.{Passed, taken_passed, taken_below, thrown_away, when_told}
@@ -33,11 +36,10 @@ use Rattle.unit.specs.Judge.{time_ruling, judged, is_link}
 use Rattle.unit.specs.Fate.{fate_number}
 use Rattle.unit.specs.Clock.{set_at, after_time, after_code, after_ticks}
 use Rattle.unit.specs.Act.{with_clock, counted_unit}
-use Rattle.unit.specs.Calls.{Outcome, without_reply, leaving, done_by, take_packet, small_call, take_time_code, take_ticks}
+use Rattle.unit.specs.Calls.{Outcome, without_reply, leaving, done, take_packet, small_call, take_time_code, take_ticks}
 use Rattle.unit.specs.declared.fate.Fate.TheVariants.{TimeTaken}
 use Rattle.unit.specs.declared.clock.Clock.{Clock}
 use Rattle.unit.specs.declared.clock.Elapsed.{Elapsed}
-use Rattle.unit.specs.declared.clock.Waiting.TheVariants.{Value}
 use Rattle.unit.specs.declared.unit.Unit.{Unit as TheUnit}
 use Rattle.unit.proofs.FateLaws.{unread_number}
 use Rattle.unit.proofs.UsableLaws.{number_fits_law, alone}
@@ -55,18 +57,18 @@ module _ (u : TheUnit) (p : Arrived) (lent : Lent) where
   -- ours is one of them
   ours_is : (reading read_time).packet u p lent ≡ take_packet u p lent
   unfolding take_packet judged
-  ours_is = go (read_of u p).reading refl
+  ours_is = go (read_of u p) refl
     where
-      both : (a b : Bool) → usable u (length lent.memory) ≡ a → is_link u p.link ≡ b → (read_of u p).reading ≡ Time
-          → take_by read_time Time u p lent ≡ take_packet u p lent
+      both : (a b : Bool) → usable u (length lent.memory) ≡ a → is_link u p.link ≡ b → read_of u p ≡ Ok Time
+          → take_by read_time (Ok Time) u p lent ≡ take_packet u p lent
       both true true works there t = rw (works, there, t)
       both true false works there t = rw (works, there)
       both false b works there t = rw works
 
-      go : (r : Reading) → (read_of u p).reading ≡ r → take_by read_time r u p lent ≡ take_packet u p lent
-      go (Refused why) e = refl
-      go (Command h) e = refl
-      go Time e = both (usable u (length lent.memory)) (is_link u p.link) refl refl e
+      go : (r : Result Packet Refusal) → read_of u p ≡ r → take_by read_time r u p lent ≡ take_packet u p lent
+      go (Err why) e = refl
+      go (Ok (Command c)) e = refl
+      go (Ok Time) e = both (usable u (length lent.memory)) (is_link u p.link) refl refl e
 
 pub reader_alone : ReaderAlone
 reader_alone u p lent = ours_is u p lent
@@ -75,7 +77,7 @@ reader_alone u p lent = ours_is u p lent
 
 module _ (p : List ℕ) (end : End) (logical n : ℕ) where
   -- another second octet than 00 and 01 was no time packet's
-  was_other : (get_or p 3 0 ≡ 0 → ⊥) → (get_or p 3 0 ≡ 1 → ⊥) → was_read p end logical n ≡ ThrownAway
+  was_other : (get_or p 3 0 ≡ 0 → ⊥) → (get_or p 3 0 ≡ 1 → ⊥) → was_read p end logical n ≡ None
   was_other x y = rw (ne_eqb (get_or p 3 0) 0 x, ne_eqb (get_or p 3 0) 1 y) (simp and-false)
 
   twelve : Digits 256 p → length p ≡ 12 → read_time p end logical n ≡ was_read p end logical n
@@ -92,30 +94,30 @@ module _ (p : List ℕ) (end : End) (logical n : ℕ) where
       go (no x) (no y) = thrown_away p end logical n (other x y) ∙ sym (was_other x y)
 
   -- nor was one of another length
-  was_longer : (length p ≡ 12 → ⊥) → was_read p end logical n ≡ ThrownAway
+  was_longer : (length p ≡ 12 → ⊥) → was_read p end logical n ≡ None
   was_longer x = rw (ne_eqb (length p) 12 x)
 
 -- where both read a time packet alike, the two terminals do the same
 module _ (u : TheUnit) (p : Arrived) (lent : Lent) where
-  alike : ((read_of u p).reading ≡ Time → read_time p.packet p.end u.logical u.number ≡ was_read p.packet p.end u.logical u.number)
+  alike : (read_of u p ≡ Ok Time → read_time p.packet p.end u.logical u.number ≡ was_read p.packet p.end u.logical u.number)
       → take_packet u p lent ≡ before.packet u p lent
-  alike same = sym (ours_is u p lent) ∙ go (read_of u p).reading refl
+  alike same = sym (ours_is u p lent) ∙ go (read_of u p) refl
     where
-      go : (r : Reading) → (read_of u p).reading ≡ r → take_by read_time r u p lent ≡ take_by was_read r u p lent
-      go (Refused why) e = refl
-      go (Command h) e = refl
-      go Time e = rw (time_bare p.packet u.number e, same e)
+      go : (r : Result Packet Refusal) → read_of u p ≡ r → take_by read_time r u p lent ≡ take_by was_read r u p lent
+      go (Err why) e = refl
+      go (Ok (Command c)) e = refl
+      go (Ok Time) e = rw (time_bare p.packet u.number e, same e)
 
   -- what it took was of twelve bytes
-  took_twelve : (read_of u p).reading ≡ Time → number_got (before.packet u p lent) ≡ 19 → (length p.packet ≡ 12 → ⊥) → ⊥
+  took_twelve : read_of u p ≡ Ok Time → number_got (before.packet u p lent) ≡ 19 → (length p.packet ≡ 12 → ⊥) → ⊥
   unfolding take_packet judged
   took_twelve e taken other =
-      let away : was_read (as_read p).packet p.end u.logical u.number ≡ ThrownAway =
+      let away : was_read (as_read p).packet p.end u.logical u.number ≡ None =
       rw (time_bare p.packet u.number e) (was_longer p.packet p.end u.logical u.number other) in
       go (usable u (length lent.memory)) (is_link u p.link) refl refl (rw (e, away) at taken)
     where
       go : (a b : Bool) → usable u (length lent.memory) ≡ a → is_link u p.link ≡ b
-          → number_got (cond (a && b) (done_by (time_ruling ThrownAway) (path_in u p) u (as_read p).packet p.link lent) (take_packet u p lent)) ≡ 19 → ⊥
+          → number_got (cond (a && b) (done (time_ruling None) u (as_read p).packet p.link lent) (take_packet u p lent)) ≡ 19 → ⊥
       go true true works there t = omega (arith, t)
       go true false works there t = omega (arith, rw (works, there) at t)
       go false b works there t = omega (arith, rw works at t)
@@ -126,7 +128,7 @@ twelve_as_before u p lent bytes size = alike u p lent (λ e. twelve p.packet p.e
 took_as_ours : (u : TheUnit) (p : Arrived) (lent : Lent) → Digits 256 p.packet → number_got (before.packet u p lent) ≡ 19 → take_packet u p lent ≡ before.packet u p lent
 took_as_ours u p lent bytes taken = alike u p lent (λ e. go (ℕ_discrete (length p.packet) 12) e)
   where
-    go : Dec (length p.packet ≡ 12) → (read_of u p).reading ≡ Time
+    go : Dec (length p.packet ≡ 12) → read_of u p ≡ Ok Time
         → read_time p.packet p.end u.logical u.number ≡ was_read p.packet p.end u.logical u.number
     go (yes size) e = twelve p.packet p.end u.logical u.number bytes size
     go (no other) e = absurd (took_twelve u p lent e taken other)
@@ -154,7 +156,7 @@ was_thrown_away u p lent otherwise adds second works there =
     let long : 2 ≤ length p.packet = go (dec_le 4 (length p.packet)) some in
     let fits = number_fits_law u (alone u (length lent.memory) works) in
     let bare_is = bare_other p.packet otherwise in
-    let read : read_of u p ≡ time_packet = rw bare_is (packet_time p.packet u.number long fits.0 fits.1 second) in
+    let read : read_of u p ≡ Ok Time = rw bare_is (packet_time p.packet u.number long fits.0 fits.1 second) in
     let away = was_other p.packet p.end u.logical u.number (λ e. omega (arith, e, some)) (λ e. omega (arith, e, some)) in
     rw (read, works, there, bare_is, away) (refl, (refl, refl, (refl, refl)))
   where
@@ -191,15 +193,15 @@ made_is_taken u p lent time zeros cut works there (address, addressed, known, sm
     let bare_is : bare p.packet ≡ p.packet =
     bare_other p.packet (λ q e. let three : time.epoch ≡ 0x03 = sym third ∙ ap (λ (b : List ℕ). get_or b 2 0) e in
     ⊎_elim (λ f. omega (arith, f, three)) (λ f. omega (arith, f, three)) known) in
-    let read : read_packet p.packet u.number ≡ time_packet =
+    let read : read_packet p.packet u.number ≡ Ok Time =
     packet_time p.packet u.number (omega (arith, ap length bytes)) fits.0 fits.1 (ap (λ (b : List ℕ). get_or b 1 0) bytes) in
-    let taken : read_time p.packet p.end u.logical u.number ≡ Taken time =
+    let taken : read_time p.packet p.end u.logical u.number ≡ Some time =
     rw (bytes, eop) (time_read address u.number time zeros cut (omega (arith, few)) (omega (arith, fewer)) u.logical addressed known small) in
     rw (bare_is, works, there, read, taken) (refl, ap (λ (c : Clock). counted_as 19 (with_clock u c)) (clock_is u.clock time), refl, (refl, refl))
 
 -- a packet that gets 19 was taken, as it arrived
 module _ (u : TheUnit) (p : Arrived) (lent : Lent) (Q : Outcome → Type 0) where
-  nineteen : ((t : TheTime) → read_time p.packet p.end u.logical u.number ≡ Taken t
+  nineteen : ((t : TheTime) → read_time p.packet p.end u.logical u.number ≡ Some t
       → Q (leaving (without_reply TimeTaken (counted_unit TimeTaken (with_clock u (after_time u.clock t)))) lent))
       → number_got (take_packet u p lent) ≡ 19 → Q (take_packet u p lent)
   nineteen taken =
@@ -207,7 +209,7 @@ module _ (u : TheUnit) (p : Arrived) (lent : Lent) (Q : Outcome → Type 0) wher
       (λ e n. absurd (omega (arith, n))) (λ e f n. absurd (omega (arith, n))) (λ e f why g n. absurd (omega (arith, n, (unread_number why).1)))
       (λ e f g w n. absurd (omega (arith, n)))
       (λ e f g t w n. taken t (rw (time_bare p.packet u.number g) at w))
-      (λ e f h g n. absurd (command_fate u h (path_in u p) (as_read p) lent (λ f. fate_number f ≢ 19) (λ n. omega (arith, n)) (λ s n. omega (arith, n)) (λ s e n. omega (arith, n)) (λ n. omega (arith, n)) n))
+      (λ e f h g n. absurd (command_fate u h (path_in u p) (as_read p) lent (λ f. fate_number f ≢ 19) (λ n. omega (arith, n)) (λ s n. omega (arith, n)) (λ o n. omega (arith, n)) (λ n. omega (arith, n)) n))
 
 pub taken_is_made : TakenIsMade ours
 unfolding counted_for
@@ -242,7 +244,7 @@ greatest_tick u p lent bytes =
     Shown : Outcome → Type 0
     Shown o =
         (octet_in p % 2 ≡ 1 → IsGreatest p (et_of o.answer.unit))
-        × (octet_in p % 2 ≡ 0 → (w : Elapsed) × (o.answer.unit.clock.waiting ≡ Value w) × IsGreatest p w.value)
+        × (octet_in p % 2 ≡ 0 → (w : Elapsed) × (o.answer.unit.clock.waiting ≡ Some w) × IsGreatest p w.value)
 
     go : (t : TheTime) (when : When) → t.when ≡ when → when_number when ≡ octet_in p % 2 → IsGreatest p t.value
         → Shown (leaving (without_reply TimeTaken (counted_unit TimeTaken (with_clock u (after_time u.clock t)))) lent)
@@ -250,17 +252,17 @@ greatest_tick u p lent bytes =
     go t AtWrap e bit most = rw e (λ one. absurd (omega (arith, bit, one)), λ none. (record { value = t.value; epoch = t.epoch }, refl, most))
 
 -- what waits goes on to wait
-small_waits : (v after : TheUnit) (w : Elapsed) → v.clock.waiting ≡ Value w → after.clock.waiting ≡ Value w → (small_call v after).unit.clock.waiting ≡ Value w
-small_waits v after w e f = small_is v after (λ a. a.unit.clock.waiting ≡ Value w) (λ u. e) (λ u. f)
+small_waits : (v after : TheUnit) (w : Elapsed) → v.clock.waiting ≡ Some w → after.clock.waiting ≡ Some w → (small_call v after).unit.clock.waiting ≡ Some w
+small_waits v after w e f = small_is v after (λ a. a.unit.clock.waiting ≡ Some w) (λ u. e) (λ u. f)
 
-waits_on : (v : TheUnit) (w : Elapsed) (cs : List Call) → v.clock.waiting ≡ Value w → BeforeWrap ours v cs → (after ours v cs).clock.waiting ≡ Value w
+waits_on : (v : TheUnit) (w : Elapsed) (cs : List Call) → v.clock.waiting ≡ Some w → BeforeWrap ours v cs → (after ours v cs).clock.waiting ≡ Some w
 unfolding after take_time_code take_ticks after_code after_ticks
 waits_on v w [] e b = e
 waits_on v w (packet p lent ∷ cs) e b = waits_on (take_packet v p lent).answer.unit w cs ((others_leave_time v p lent b.0).1 ∙ e) b.1
 waits_on v w (time_code byte ∷ cs) e b =
     waits_on (take_time_code v byte).unit w cs (small_waits v (with_clock v (after_code v.clock (byte % 2 ^ 6))) w e (go (eqb v.clock.last 63) (eqb (byte % 2 ^ 6) 0) refl refl)) b.1
   where
-    go : (s t : Bool) → eqb v.clock.last 63 ≡ s → eqb (byte % 2 ^ 6) 0 ≡ t → (after_code v.clock (byte % 2 ^ 6)).waiting ≡ Value w
+    go : (s t : Bool) → eqb v.clock.last 63 ≡ s → eqb (byte % 2 ^ 6) 0 ≡ t → (after_code v.clock (byte % 2 ^ 6)).waiting ≡ Some w
     go true true f g = absurd (b.0 (eqb-true _ _ f, eqb-true _ _ g))
     go true false f g = rw (f, g) e
     go false t f g = rw f e

@@ -17,8 +17,9 @@ use Rattle.packets.specs.declared.header.Header.{Header}
 use Rattle.packets.specs.declared.path.Path.{Path}
 use Rattle.packets.specs.declared.reading.Refusal.{Refusal}
 use Rattle.packets.specs.declared.reading.Refusal.TheVariants.{Incomplete, UnknownProtocol, ExtendedProtocol, Reply, HeaderCrc}
+use Rattle.std.proofs.Common.{Ok, Err}
 use Rattle.unit.specs.Some.{some}
-use Rattle.unit.specs.Fate.{byte_of, is_success}
+use Rattle.unit.specs.Fate.{Status, byte_of, is_success}
 use Rattle.unit.specs.Counters.{counted_for}
 use Rattle.unit.specs.Usable.{usable}
 use Rattle.unit.specs.Given.{Arrived, as_read, Lent}
@@ -26,7 +27,6 @@ use Rattle.unit.specs.Decide.{rmw_count, header_status, wanted_count, all_at_han
 use Rattle.unit.specs.Plan.{action_of, field_action_of, memory_action}
 use Rattle.unit.specs.Act.{stored, data_for, changed, counted_unit}
 use Rattle.unit.specs.Calls.{Outcome}
-use Rattle.unit.specs.declared.fate.Status.{Status}
 use Rattle.unit.specs.declared.fate.Fate.TheVariants.{Unread, Replied}
 use Rattle.unit.specs.declared.decide.Action.TheVariants.{Nothing}
 use Rattle.unit.specs.declared.unit.Unit.{Unit as TheUnit}
@@ -108,33 +108,36 @@ module _ (u : TheUnit) (p : Arrived) (lent : Lent) (h : Header) (read : IsComman
   -- refused: the unit is counted, whether there is a reply or not
   refused_row : (s : Status) (n d : List ℕ) → is_success s ≡ false → s ≡ status_due u p h → n ≡ refused_on h s p lent → Rows s u n d
   unfolding counted_for
-  refused_row s n d e due memory = (
-    λ w written. (λ f. absurd (false≢true (sym e ∙ f)), λ f. (h, read, w, due, e, refl, memory), written s refl),
-    λ w. rw e (λ written. ((h, read, w, due, e, refl, memory), (refl, refl))),
+  refused_row (Ok done) n d e due memory = absurd (false≢true (sym e))
+  refused_row (Err offence) n d e due memory = (
+    λ w written. (λ f. absurd (false≢true f), λ f. (h, read, w, due, e, refl, memory), written (Err offence) refl),
+    λ w written. ((h, read, w, due, e, refl, memory), (refl, refl)),
   )
 
   -- obeyed, on memory and on fields
   memory_done : (s : Status) (n d : List ℕ) → is_success s ≡ true → s ≡ status_due u p h → h.protocol ≡ 0x01 → n ≡ obeyed_on (kind_in h) h p lent → Rows s u n d
   unfolding counted_for
-  memory_done s n d e due q memory = (
-    λ w written. (λ f. (h, read, w, rw due at e, inl (q, refl, memory)), λ f. absurd (false≢true (sym f ∙ e)), written s refl),
-    λ w. rw e (λ written. ((h, read, w, rw due at e, inl (q, refl, memory)), (refl, refl))),
+  memory_done (Ok done) n d e due q memory = (
+    λ w written. (λ f. (h, read, w, ap is_success (sym due), inl (q, refl, memory)), λ f. absurd (false≢true (sym f)), written (Ok done) refl),
+    λ w written. ((h, read, w, ap is_success (sym due), inl (q, refl, memory)), (refl, refl)),
   )
+  memory_done (Err offence) n d e due q memory = absurd (false≢true e)
 
   fields_done : (s : Status) (v : TheUnit) (d : List ℕ) → is_success s ≡ true → s ≡ status_due u p h → (h.protocol ≡ 0x01 → ⊥) → v ≡ obeyed_by (kind_in h) u h p
       → Rows s v lent.memory d
   unfolding counted_for
-  fields_done s v d e due q left = (
+  fields_done (Ok done) v d e due q left = (
     λ w written. (
-      λ f. (h, read, w, rw due at e, inr (protocol_other (as_read p).packet u.number h read q, ap (counted_as 20) left, refl)),
-      λ f. absurd (false≢true (sym f ∙ e)),
-      written s refl,
+      λ f. (h, read, w, ap is_success (sym due), inr (protocol_other (as_read p).packet u.number h read q, ap (counted_as 20) left, refl)),
+      λ f. absurd (false≢true (sym f)),
+      written (Ok done) refl,
     ),
-    λ w. rw e (λ written. (
-      (h, read, w, rw due at e, inr (protocol_other (as_read p).packet u.number h read q, ap (counted_as 18) left, refl)),
+    λ w written. (
+      (h, read, w, ap is_success (sym due), inr (protocol_other (as_read p).packet u.number h read q, ap (counted_as 18) left, refl)),
       (refl, refl),
-    )),
+    ),
   )
+  fields_done (Err offence) v d e due q left = absurd (false≢true e)
 
   abbrev status : Status
   status = data_status_of h (as_read p)

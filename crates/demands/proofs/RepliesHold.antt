@@ -17,17 +17,16 @@ use Rattle.packets.specs.Reply.{reply_start, reply_head, reply_with, carried, re
 use Rattle.packets.specs.declared.instruction.Kind.{Kind}
 use Rattle.packets.specs.declared.instruction.Kind.TheVariants.{Unused, Read, ReadModifyWrite, Write}
 use Rattle.packets.specs.declared.header.Header.{Header}
-use Rattle.unit.specs.Fate.{byte_of, is_success, fate_number}
+use Rattle.unit.specs.Fate.{Status, byte_of, is_success, fate_number}
 use Rattle.unit.specs.Usable.{usable}
 use Rattle.unit.specs.Given.{Arrived, as_read, Lent}
 use Rattle.unit.specs.Decide.{rmw_count, all_at_hand, data_count, data_status_of}
 use Rattle.unit.specs.Plan.{action_of, field_action_of, decided}
 use Rattle.unit.specs.Act.{data_for}
 use Rattle.unit.specs.Calls.{Outcome}
-use Rattle.unit.specs.declared.fate.Status.{Status}
 use Rattle.unit.specs.declared.fate.Fate.TheVariants.{Replied}
 use Rattle.unit.specs.declared.unit.Unit.{Unit as TheUnit}
-use Rattle.unit.proofs.FateLaws.{unread_number}
+use Rattle.unit.proofs.FateLaws.{unread_number, success_byte}
 use Rattle.unit.proofs.PlanLaws.{replied_plan, carried_plan}
 use Rattle.unit.proofs.ReplyLaws.{reply_written}
 use Rattle.unit.proofs.CommandLaws.{take_command, packet_is}
@@ -79,7 +78,7 @@ module _ (u : TheUnit) (p : Arrived) (lent : Lent) (s : Status) (bytes : Digits 
 
     -- what is carried is what is due
     due : (d : List ℕ) → (is_success s ≡ true → d ≡ answered) → carried h (byte_of s) d ≡ data_due u p lent h s
-    due d f = go (is_write h.instruction) (is_success s) refl
+    due d f = go (is_write h.instruction) (eqb (byte_of s) 0) (success_byte s)
       where
         go : (w t : Bool) → is_success s ≡ t → cond (not w && t) d [] ≡ cond (not w && t) answered []
         go true t e = refl

@@ -5,14 +5,13 @@ use mathlib.Core.Bool.{true}
 use mathlib.Core.Logic.{◌⊎◌, inl, inr}
 use mathlib.Core.List.{List, [], ◌∷◌}
 use Prim.Native.Nat.{ℕ, ◌+◌, ◌*◌, ◌/◌, ◌%◌, ◌^◌, ◌<◌, ◌≤◌}
+use Rattle.std.proofs.Common.{Option, None}
 use native.Mathlib.Omega.{arith}
 use Rattle.unit.specs.Usable.{usable_unit}
 use Rattle.unit.specs.Clock.{nearest_second, after_code, after_ticks}
 use Rattle.unit.specs.Calls.{take_packet, take_time_code, take_ticks}
 use Rattle.unit.specs.declared.clock.Clock.{Clock}
 use Rattle.unit.specs.declared.clock.Elapsed.{Elapsed}
-use Rattle.unit.specs.declared.clock.Waiting.{Waiting}
-use Rattle.unit.specs.declared.clock.Waiting.TheVariants.{NoValue}
 use Rattle.unit.specs.declared.unit.Unit.{Unit as TheUnit}
 use Rattle.unit.proofs.ClockLaws.{Shows, nearest_is, nearest_near, nearest_after, ticks_add, code_wraps, code_next, code_other}
 use Rattle.unit.proofs.CommandLaws.{time_stays}
@@ -28,7 +27,7 @@ value c = c.elapsed.value
 abbrev code : Clock → ℕ
 code c = c.last
 
-abbrev held : Clock → Waiting
+abbrev held : Clock → Option Elapsed
 held c = c.waiting
 
 -- what a Time-Code, and ticks, make of the clock of a usable unit
@@ -45,7 +44,7 @@ others_leave_time = time_stays
 
 -- ---- a wrap
 
-wrapped : (u : TheUnit) (byte : ℕ) → WrapsAlone u byte → Shows (take_time_code u byte).unit.clock 0 (nearest_second (et_of u)) u.clock.elapsed.epoch NoValue
+wrapped : (u : TheUnit) (byte : ℕ) → WrapsAlone u byte → Shows (take_time_code u byte).unit.clock 0 (nearest_second (et_of u)) u.clock.elapsed.epoch None
 wrapped u byte w =
     let e = code_clock u byte w.0 ∙ ap (after_code u.clock) w.2.1 in
     rw e (code_wraps u.clock w.2.0 w.1)

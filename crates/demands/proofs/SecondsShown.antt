@@ -5,13 +5,13 @@ use mathlib.Core.Bool.{true}
 use mathlib.Core.Logic.{◌⊎◌, inl, inr}
 use mathlib.Core.List.{List, [], ◌∷◌}
 use Prim.Native.Nat.{ℕ, zero, suc, ◌+◌, ◌*◌, ◌/◌, ◌%◌, ◌^◌, ◌<◌, ◌≤◌}
+use Rattle.std.proofs.Common.{None}
 use native.Mathlib.Omega.{arith}
 use borrow.Author.Tests.{lt-ltb, le-leb, eq-eqb, ne_eqb}
 use Rattle.unit.specs.Usable.{usable_unit}
 use Rattle.unit.specs.Clock.{nearest_second, after_code, after_ticks}
 use Rattle.unit.specs.Act.{with_clock}
 use Rattle.unit.specs.Calls.{take_time_code, take_ticks}
-use Rattle.unit.specs.declared.clock.Waiting.TheVariants.{NoValue}
 use Rattle.unit.specs.declared.unit.Unit.{Unit as TheUnit}
 use Rattle.demands.specs.Terminal.{Terminal, ours, Call, time_code, ticks, after, Every}
 use Rattle.demands.specs.Bounds.{OfBytes}
@@ -21,7 +21,7 @@ use Rattle.demands.proofs.Witnesses.{unit}
 
 -- a unit whose last Time-Code was v, with an ET; and the same at the Time-Code's part of a second s
 abbrev at : ℕ → ℕ → TheUnit
-at v et = with_clock (unit 0) (record { last = v; elapsed = record { value = et; epoch = 0x9F }; waiting = NoValue })
+at v et = with_clock (unit 0) (record { last = v; elapsed = record { value = et; epoch = 0x9F }; waiting = None })
 
 abbrev on : ℕ → ℕ → TheUnit
 on s v = at v (s * 2 ^ 24 + v * 2 ^ 18)

@@ -1,7 +1,9 @@
 -- One RMAP command, as a step on memory: it tells and leaves what follows from the bytes that it refers to, stores to no other, and changes
 -- nothing of the unit but its counters.
+use Rattle.std.proofs.Common.{Some, Ok, Err}
+use Rattle.std.specs.Prelude.{Result, Ok}
 use mathlib.Core.Path.{◌≡◌, refl, sym, ◌∙◌, ap}
-use mathlib.Core.Bool.{Bool, true, false, cond, ◌&&◌, ◌||◌, false≢true, or-true, and-false}
+use mathlib.Core.Bool.{Bool, true, false, ◌&&◌, ◌||◌, false≢true, or-true, and-false}
 use mathlib.Core.Logic.{◌⊎◌, inl, inr}
 use mathlib.Core.List.{List}
 use Prim.Native.Nat.{ℕ, ◌+◌, ◌<◌, ◌≤◌}
@@ -15,9 +17,10 @@ use Rattle.packets.specs.Reply.{replied}
 use Rattle.packets.specs.declared.instruction.Kind.TheVariants.{ReadModifyWrite, Write}
 use Rattle.packets.specs.declared.header.Header.{Header}
 use Rattle.packets.specs.declared.path.Path.{Path}
-use Rattle.packets.specs.declared.reading.Reading.{Reading}
-use Rattle.packets.specs.declared.reading.Reading.TheVariants.{Command}
-use Rattle.unit.specs.Fate.{byte_of, is_success, fate_status}
+use Rattle.unit.specs.Fate.{Status, byte_of, is_success, fate_status}
+use Rattle.packets.specs.declared.reading.Packet.{Packet}
+use Rattle.packets.specs.declared.reading.Refusal.{Refusal}
+use Rattle.packets.specs.declared.reading.Packet.TheVariants.{Command}
 use Rattle.unit.specs.Counters.{counted_for}
 use Rattle.unit.specs.Usable.{usable}
 use Rattle.unit.specs.Given.{Arrived, as_read, Lent}
@@ -25,10 +28,8 @@ use Rattle.unit.specs.Decide.{span_size, header_status, wanted_count, all_at_han
 use Rattle.unit.specs.Plan.{unanswered_fate}
 use Rattle.unit.specs.Act.{stored, data_for, counted_unit}
 use Rattle.unit.specs.Calls.{Outcome, take_packet}
-use Rattle.unit.specs.declared.fate.Status.{Status}
 use Rattle.unit.specs.declared.fate.Fate.{Fate}
-use Rattle.unit.specs.declared.fate.Fate.TheVariants.{NotObeyed, Obeyed, Replied}
-use Rattle.unit.specs.declared.fate.Told.TheVariants.{Byte}
+use Rattle.unit.specs.declared.fate.Fate.TheVariants.{Replied}
 use Rattle.unit.specs.declared.unit.Unit.{Unit as TheUnit}
 use Rattle.unit.proofs.CallLaws.{packet_length, by_sizes}
 use Rattle.unit.proofs.DecideLaws.{write_bit, data_is}
@@ -47,16 +48,13 @@ second_read p rmap = ap (λ (b : List ℕ). get_or b 1 0) (bare_rmap p.packet rm
 
 -- ---- a memory command whose header is accepted refers to its span, whatever its data
 
-data_refers : (h : Header) (p : Arrived) → refers_to_none (Byte (byte_of (data_status_of h p))) ≡ false
+data_refers : (h : Header) (p : Arrived) → refers_to_none (Some (byte_of (data_status_of h p))) ≡ false
 data_refers h p =
-    data_is (λ s. refers_to_none (Byte (byte_of s)) ≡ false) (data_count h (all_at_hand h p)) (all_at_hand h p).data_crc (wanted_count h) p.end refl refl refl refl refl
+    data_is (λ s. refers_to_none (Some (byte_of s)) ≡ false) (data_count h (all_at_hand h p)) (all_at_hand h p).data_crc (wanted_count h) p.end refl refl refl refl refl
 
-silent_refers : (s : Status) → refers_to_none (Byte (byte_of s)) ≡ false → refers_to_none (fate_status (unanswered_fate s)) ≡ false
-silent_refers s e = go (is_success s)
-  where
-    go : (t : Bool) → refers_to_none (fate_status (cond t Obeyed (NotObeyed s))) ≡ false
-    go true = refl
-    go false = e
+silent_refers : (s : Status) → refers_to_none (Some (byte_of s)) ≡ false → refers_to_none (fate_status (unanswered_fate s)) ≡ false
+silent_refers (Ok done) e = refl
+silent_refers (Err offence) e = e
 
 -- ---- one command
 
@@ -67,8 +65,8 @@ module _ (s : State) (c : Sent) (rmap : Rmap c) where
   abbrev on : List ℕ → Outcome
   on m = take_packet u c.arrived (lent_for c m)
 
-  abbrev read : Reading
-  read = (read_of u c.arrived).reading
+  abbrev read : Result Packet Refusal
+  read = read_of u c.arrived
 
   abbrev path : Path
   path = path_in u c.arrived
@@ -78,7 +76,7 @@ module _ (s : State) (c : Sent) (rmap : Rmap c) where
   same_fate m k l = by_sizes u c.arrived (lent_for c m) (lent_for c k) (ap (λ (n : ℕ). record { memory = n; reply = length c.buffer }) l)
 
   -- a command whose header was accepted, of some fate that it also has in s: the test of what it refers to is that of its span
-  module _ (h : Header) (is : read ≡ Command h) (f : Fate) (refers_to : refers_to_none (fate_status f) ≡ false) (has : f ≡ (on s.memory).answer.fate) where
+  module _ (h : Header) (is : read ≡ Ok (Command (record { header = h; path = path }))) (f : Fate) (refers_to : refers_to_none (fate_status f) ≡ false) (has : f ≡ (on s.memory).answer.fate) where
     refers_span : (i : ℕ) → refers s c i ≡ in_span h i
     unfolding refers
     refers_span i = rw (← has, refers_to, is)
@@ -119,7 +117,7 @@ module _ (s : State) (c : Sent) (rmap : Rmap c) where
       Q : Outcome → Type 0
       Q o = o.answer.fate ≡ (on s.memory).answer.fate → get_or o.memory i 0 ≡ get_or m i 0
 
-      stays : usable u (length m) ≡ true → (h : Header) → read ≡ Command h → h.protocol ≡ 0x01 → is_success (header_status u h path c.arrived.link) ≡ true
+      stays : usable u (length m) ≡ true → (h : Header) → read ≡ Ok (Command (record { header = h; path = path })) → h.protocol ≡ 0x01 → is_success (header_status u h path c.arrived.link) ≡ true
           → (f : Fate) → refers_to_none (fate_status f) ≡ false → f ≡ (on s.memory).answer.fate → get_or (after h m) i 0 ≡ get_or m i 0
       stays works h is rmap accepted f r has =
           go (storing_kind (kind_in h) h (status h) (as_read c.arrived).packet m (header_size h.instruction) (data_count h (all_at_hand h (as_read c.arrived)))) (in_span h i) refl (sym (stores_span h is f r has i) ∙ kept)
@@ -140,7 +138,7 @@ module _ (s : State) (c : Sent) (rmap : Rmap c) where
         o.answer.fate ≡ (on s.memory).answer.fate
         → (o.reply ≡ o'.reply) × ((i : ℕ) → refers s c i ≡ true → get_or o.memory i 0 ≡ get_or o'.memory i 0)
 
-    module _ (works : usable u (length m) ≡ true) (h : Header) (is : read ≡ Command h) (accepted : is_success (header_status u h path c.arrived.link) ≡ true)
+    module _ (works : usable u (length m) ≡ true) (h : Header) (is : read ≡ Ok (Command (record { header = h; path = path }))) (accepted : is_success (header_status u h path c.arrived.link) ≡ true)
         (f : Fate) (r : refers_to_none (fate_status f) ≡ false) (has : f ≡ (on s.memory).answer.fate) (p : h.protocol ≡ 0x01) where
       in_alike : (i : ℕ) → h.address ≤ i → i < h.address + span_size h → get_or m i 0 ≡ get_or k i 0
       in_alike i b l = alike i (refers_span h is f r has i ∙ in_span_law h i b l)
@@ -187,7 +185,7 @@ pub keeps : (s : State) (c : Sent) → Rmap c → Keeps (tells s) (leaves s) (re
 unfolding stores
 keeps s c rmap = record {
   long = λ m l. (packet_length s.unit c.arrived (lent_for c m)).0 ∙ l;
-  within = λ i e. rw e (and-false (is_store (read_of s.unit c.arrived).reading));
+  within = λ i e. rw e (and-false (is_store (read_of s.unit c.arrived)));
   frame = λ m i l kept. byte_stays s c rmap m l i kept;
   same = λ m k lm lk alike.
       let f = same_fate s c rmap m k (lm ∙ sym lk) in

@@ -3,6 +3,7 @@ use mathlib.Core.Path.{◌≡◌, refl, sym}
 use mathlib.Core.Bool.{Bool, true, false, ◌||◌, false≢true}
 use mathlib.Core.List.{List, [], ◌∷◌}
 use Prim.Native.Nat.{ℕ}
+use Rattle.std.proofs.Common.{None}
 use borrow.Author.Tests.{leb-false}
 use lib.Dec.{leb}
 use lib.ListN.{replicate}
@@ -10,7 +11,6 @@ use Rattle.octets.specs.Numbers.{Digits}
 use Rattle.unit.specs.Some.{some}
 use Rattle.packets.specs.declared.reading.End.TheVariants.{Eop}
 use Rattle.unit.specs.Given.{Arrived, Lent}
-use Rattle.unit.specs.declared.clock.Waiting.TheVariants.{NoValue}
 use Rattle.unit.specs.declared.windows.Window.{Window}
 use Rattle.unit.specs.declared.unit.Unit.{Unit as TheUnit}
 
@@ -39,7 +39,7 @@ unit before = record {
     divider = 0;
   };
   owner = record { device = 0; initiator = 0; path = record { bytes = replicate 12 0; count = 0 }; link = 0 };
-  clock = record { last = 0; elapsed = record { value = 0; epoch = 0x9F }; waiting = NoValue };
+  clock = record { last = 0; elapsed = record { value = 0; epoch = 0x9F }; waiting = None };
   counters = 0 ∷ 0 ∷ 0 ∷ 0 ∷ 0 ∷ 0 ∷ 0 ∷ 0 ∷ 0 ∷ before ∷ before ∷ [];
 }
 

@@ -1,29 +1,29 @@
 -- The zero in front of plug-and-play packets: taken off where it is, once, and nothing else is.
+use Rattle.packets.specs.declared.time.Time.{Time as TheTime}
+use Rattle.std.specs.Prelude.{Option, Some, None, Ok, Err}
 use mathlib.Core.Path.{◌≡◌, refl, sym, ◌∙◌, ap}
-use mathlib.Core.Bool.{true, false}
+use mathlib.Core.Bool.{true, false, false≢true}
 use mathlib.Core.Logic.{◌⊎◌, inl, inr, ⊎_elim, ◌≢◌}
 use mathlib.Core.List.{List, ◌∷◌}
 use Prim.Native.Nat.{ℕ}
 use native.Mathlib.Omega.{arith}
 use lib.ListN.{length, get_or}
-use Rattle.packets.specs.Reading.{bare, refused, time_packet, read_packet}
+use Rattle.packets.specs.Reading.{bare, read_packet}
 use Rattle.packets.specs.Time.{read_time}
 use Rattle.packets.specs.declared.header.Header.{Header}
-use Rattle.packets.specs.declared.path.Path.{Path}
 use Rattle.packets.specs.declared.reading.End.{End}
+use Rattle.packets.specs.declared.reading.Packet.TheVariants.{Time}
 use Rattle.packets.specs.declared.reading.Refusal.TheVariants.{UnknownProtocol}
-use Rattle.packets.specs.declared.time.TimeReading.{TimeReading}
-use Rattle.packets.specs.declared.time.TimeReading.TheVariants.{ThrownAway, Taken}
 use Rattle.packets.proofs.BareLaws.{bare_lacks, bare_zero, bare_other, bare_once}
 use Rattle.packets.proofs.TimeLaws.{taken_addressed, thrown_away}
 use Rattle.packets.proofs.ReadingLaws.{target_read, protocol_extended, packet_protocol, packet_time, packet_unknown}
+use Rattle.std.proofs.Common.{Ok, Err}
 use Rattle.unit.specs.Given.{Arrived, as_read, Lent}
-use Rattle.unit.specs.Fate.{is_success, fate_number}
+use Rattle.unit.specs.Fate.{Status, is_success, fate_number}
 use Rattle.unit.specs.Decide.{header_status}
 use Rattle.unit.specs.Plan.{unanswered_fate}
-use Rattle.unit.specs.declared.fate.Status.{Status}
 use Rattle.unit.specs.Judge.{time_ruling, judged}
-use Rattle.unit.specs.Calls.{done_by, take_read, take_packet}
+use Rattle.unit.specs.Calls.{done, take_read, take_packet}
 use Rattle.unit.specs.declared.unit.Unit.{Unit as TheUnit}
 use Rattle.unit.proofs.FateLaws.{unread_number}
 use Rattle.unit.proofs.DecideLaws.{addressed}
@@ -62,10 +62,10 @@ none_with_zero c rest rmap begins = omega (arith, sym rmap ∙ ap (λ (b : List 
 -- ---- by the second byte
 
 -- a time packet is thrown away or taken
-time_either : (r : TimeReading) (path : Path) (u : TheUnit) (bytes : List ℕ) (link : ℕ) (lent : Lent)
-    → (fate_number (done_by (time_ruling r) path u bytes link lent).answer.fate ≡ 16) ⊎ (fate_number (done_by (time_ruling r) path u bytes link lent).answer.fate ≡ 19)
-time_either ThrownAway path u bytes link lent = inl refl
-time_either (Taken t) path u bytes link lent = inr refl
+time_either : (r : Option TheTime) (u : TheUnit) (bytes : List ℕ) (link : ℕ) (lent : Lent)
+    → (fate_number (done (time_ruling r) u bytes link lent).answer.fate ≡ 16) ⊎ (fate_number (done (time_ruling r) u bytes link lent).answer.fate ≡ 19)
+time_either None u bytes link lent = inl refl
+time_either (Some t) u bytes link lent = inr refl
 
 pub by_second_byte : BySecondByte ours
 unfolding judged
@@ -80,7 +80,7 @@ by_second_byte u p lent otherwise two works there =
         ← protocol_extended (get_or p.packet 1 0) p.packet u.number e,
       ),
       λ e. rw (as-it-is, works, there, packet_time p.packet u.number two fits.0 fits.1 e)
-          (time_either (read_time p.packet p.end u.logical u.number) time_packet.path u p.packet p.link lent),
+          (time_either (read_time p.packet p.end u.logical u.number) u p.packet p.link lent),
       λ x y z other. rw (as-it-is, works, there, packet_unknown p.packet u.number two x y z other),
     )
 
@@ -98,7 +98,8 @@ only_addressed u p lent otherwise unit all =
     (λ q a. absurd (elsewhere h g a)) (λ q a. absurd (elsewhere h g a)))
   where
     silent : (s : Status) → is_success s ≡ false → fate_number (unanswered_fate s) ≢ 19
-    silent s e = rw e (λ n. omega (arith, n))
+    silent (Ok done) e = absurd (false≢true (sym e))
+    silent (Err offence) e = λ n. omega (arith, n)
 
     first : get_or (as_read p).packet 0 0 ≡ get_or p.packet 0 0
     first = ap (λ (b : List ℕ). get_or b 0 0) (bare_other p.packet otherwise)
@@ -115,14 +116,14 @@ module _ (rest : List ℕ) where
   zeroed = 0x00 ∷ 0xFE ∷ 0x03 ∷ rest
 
   -- by its second byte: a time packet where the time number is FE, unknown elsewhere
-  was_time : (number : ℕ) → number ≡ 0xFE → read_packet zeroed number ≡ time_packet
+  was_time : (number : ℕ) → number ≡ 0xFE → read_packet zeroed number ≡ Ok Time
   was_time number e = packet_time zeroed number (omega arith) (omega (arith, e)) (omega (arith, e)) (sym e)
 
-  was_unknown : (number : ℕ) → number ≢ 0xFE → read_packet zeroed number ≡ refused UnknownProtocol
+  was_unknown : (number : ℕ) → number ≢ 0xFE → read_packet zeroed number ≡ Err UnknownProtocol
   was_unknown number e = packet_unknown zeroed number (omega arith) (λ z. omega (arith, z)) (λ z. omega (arith, z)) (λ z. omega (arith, z)) (λ f. e (sym f))
 
   -- and 03 is no epoch code
-  was_thrown : (end : End) (logical number : ℕ) → read_time zeroed end logical number ≡ ThrownAway
+  was_thrown : (end : End) (logical number : ℕ) → read_time zeroed end logical number ≡ None
   was_thrown end logical number = thrown_away zeroed end logical number (λ passed. ⊎_elim (λ e. omega (arith, e)) (λ e. omega (arith, e)) passed.epoch)
 
 pub was_refused : WasRefused

@@ -1,6 +1,6 @@
 -- Document 01's 'Cases by hand', in one table; and beside it the cases of the Time-Code's wrap (document 02, 3), of a zero in front (document 02, 2) and of
 -- the newer preamble (document 02, 12).
-use Rattle.std.specs.Prelude.{◌≡◌, true, List, [], ◌∷◌, ℕ, ◌-◌, ◌^◌, length, get_or}
+use Rattle.std.specs.Prelude.{◌≡◌, true, List, [], ◌∷◌, ℕ, ◌-◌, ◌^◌, length, get_or, Option, None, Some}
 use Rattle.octets.specs.Crc.{crc}
 use Rattle.packets.specs.Instruction.{type_of, code_of, kind_of, is_verified, wants_reply, is_incrementing}
 use Rattle.packets.specs.Path.{kept, path_bytes}
@@ -16,8 +16,6 @@ use Rattle.unit.specs.Judge.{is_link}
 use Rattle.unit.specs.Calls.{take_packet, take_time_code, take_ticks}
 use Rattle.unit.specs.declared.calls.Answer.{Answer}
 use Rattle.unit.specs.declared.clock.Elapsed.{Elapsed}
-use Rattle.unit.specs.declared.clock.Waiting.{Waiting}
-use Rattle.unit.specs.declared.clock.Waiting.TheVariants.{NoValue, Value}
 use Rattle.unit.specs.declared.unit.Unit.{Unit as TheUnit}
 
 -- An instruction is a command of a kind, incrementing and with a reply.
@@ -63,7 +61,7 @@ HandCases =
     × ((u : TheUnit) → usable_unit u ≡ true → u.clock.elapsed.value ≡ 2 ^ 56 - 1 → (take_ticks u 1).unit.clock.elapsed.value ≡ 0)
 
 -- Time-Code 0 behind 63 makes one ET of another, in every usable unit in which that waits: no value, or one.
-abbrev pub WrapMakes : Waiting → ℕ → ℕ → Type 0
+abbrev pub WrapMakes : Option Elapsed → ℕ → ℕ → Type 0
 WrapMakes waiting before after =
     (u : TheUnit) → usable_unit u ≡ true → u.clock.last ≡ 63 → u.clock.waiting ≡ waiting → u.clock.elapsed.value ≡ before
     → (take_time_code u 0).unit.clock.elapsed.value ≡ after
@@ -71,23 +69,23 @@ WrapMakes waiting before after =
 abbrev pub WrapCases : Type 0
 WrapCases =
     -- exactly one half, and one tick below it; of an odd second and of an even one
-    WrapMakes NoValue 0x00000007800000 0x00000008000000
-    × WrapMakes NoValue 0x000000077FFFFF 0x00000007000000
-    × WrapMakes NoValue 0x00000006800000 0x00000007000000
-    × WrapMakes NoValue 0x000000067FFFFF 0x00000006000000
+    WrapMakes None 0x00000007800000 0x00000008000000
+    × WrapMakes None 0x000000077FFFFF 0x00000007000000
+    × WrapMakes None 0x00000006800000 0x00000007000000
+    × WrapMakes None 0x000000067FFFFF 0x00000006000000
     -- a second that is nearly over, one that has just begun, and one that begins
-    × WrapMakes NoValue 0x00000007FFFFFF 0x00000008000000
-    × WrapMakes NoValue 0x00000007000001 0x00000007000000
-    × WrapMakes NoValue 0x00000007000000 0x00000007000000
+    × WrapMakes None 0x00000007FFFFFF 0x00000008000000
+    × WrapMakes None 0x00000007000001 0x00000007000000
+    × WrapMakes None 0x00000007000000 0x00000007000000
     -- all 32 bits of the seconds count
-    × WrapMakes NoValue 0x7FFFFFFF800000 0x80000000000000
+    × WrapMakes None 0x7FFFFFFF800000 0x80000000000000
     -- the last second of all: from one half on it rolls over to 0, below it stays
-    × WrapMakes NoValue 0xFFFFFFFFFFFFFF 0
-    × WrapMakes NoValue 0xFFFFFFFF800000 0
-    × WrapMakes NoValue 0xFFFFFFFF7FFFFF 0xFFFFFFFF000000
-    × WrapMakes NoValue 0xFFFFFFFF000000 0xFFFFFFFF000000
+    × WrapMakes None 0xFFFFFFFFFFFFFF 0
+    × WrapMakes None 0xFFFFFFFF800000 0
+    × WrapMakes None 0xFFFFFFFF7FFFFF 0xFFFFFFFF000000
+    × WrapMakes None 0xFFFFFFFF000000 0xFFFFFFFF000000
     -- a waiting value wins on both sides of the half
-    × ((w : Elapsed) → WrapMakes (Value w) 0x00000007800000 w.value × WrapMakes (Value w) 0x000000077FFFFF w.value)
+    × ((w : Elapsed) → WrapMakes (Some w) 0x00000007800000 w.value × WrapMakes (Some w) 0x000000077FFFFF w.value)
 
 abbrev pub ZeroCases : Type 0
 ZeroCases =
@@ -123,7 +121,7 @@ abbrev pub ShowsAtOnce : List ℕ → ℕ → Type 0
 ShowsAtOnce p et = ComesTo p (λ a. (fate_number a.fate ≡ 19) × (a.unit.clock.elapsed ≡ record { value = et; epoch = get_or p 2 0 }))
 
 abbrev pub WaitsFor : List ℕ → ℕ → Type 0
-WaitsFor p et = ComesTo p (λ a. (fate_number a.fate ≡ 19) × (a.unit.clock.waiting ≡ Value (record { value = et; epoch = get_or p 2 0 })))
+WaitsFor p et = ComesTo p (λ a. (fate_number a.fate ≡ 19) × (a.unit.clock.waiting ≡ Some (record { value = et; epoch = get_or p 2 0 })))
 
 abbrev pub IsThrownAway : List ℕ → Type 0
 IsThrownAway p = ComesTo p (λ a. fate_number a.fate ≡ 16)

@@ -1,5 +1,5 @@
 -- Impostors (document 01, 'What a promise has to say'): terminals that a demand has to shut out.
-use Rattle.std.specs.Prelude.{◌≡◌, Bool, true, cond, ◌&&◌, ◌||◌, List, [], ℕ, ◌+◌, ◌/◌, ◌%◌, ◌^◌, eqb, length, get_or, drop, replicate}
+use Rattle.std.specs.Prelude.{◌≡◌, Bool, true, cond, ◌&&◌, ◌||◌, List, [], ℕ, ◌+◌, ◌/◌, ◌%◌, ◌^◌, eqb, length, get_or, drop, replicate, Option, None, Some, Ok, Result, Err}
 use Rattle.octets.specs.Places.{part}
 use Rattle.octets.specs.Numbers.{number}
 use Rattle.octets.specs.Crc.{crc}
@@ -8,28 +8,26 @@ use Rattle.packets.specs.Time.{read_time}
 use Rattle.packets.specs.Reply.{reply_length, replied}
 use Rattle.packets.specs.declared.header.Header.{Header}
 use Rattle.packets.specs.declared.path.Path.{Path}
-use Rattle.packets.specs.declared.reading.Reading.{Reading}
-use Rattle.packets.specs.declared.reading.Reading.TheVariants.{Refused, Time, Command}
+use Rattle.packets.specs.declared.reading.Packet.{Packet}
+use Rattle.packets.specs.declared.reading.Refusal.{Refusal}
+use Rattle.packets.specs.declared.reading.Packet.TheVariants.{Time, Command}
 use Rattle.packets.specs.declared.reading.End.{End}
 use Rattle.packets.specs.declared.time.When.TheVariants.{AtWrap, AtOnce}
 use Rattle.packets.specs.declared.time.Time.{Time as TheTime}
-use Rattle.packets.specs.declared.time.TimeReading.{TimeReading}
-use Rattle.packets.specs.declared.time.TimeReading.TheVariants.{ThrownAway, Taken}
 use Rattle.unit.specs.Fate.{fate_number}
 use Rattle.unit.specs.Usable.{usable}
 use Rattle.unit.specs.Counters.{total}
 use Rattle.unit.specs.Clock.{seconds_of, time_of, after_code}
 use Rattle.unit.specs.Act.{with_clock, with_counters, counted_unit}
 use Rattle.unit.specs.Given.{Arrived, Lent, sizes_of}
-use Rattle.unit.specs.Judge.{judged_as, is_link}
+use Rattle.unit.specs.Judge.{ruling_on, is_link}
 use Rattle.unit.specs.Calls.{Outcome, without_reply, leaving, done, take_read, take_packet, small_call, take_time_code, take_ticks}
-use Rattle.unit.specs.declared.fate.Status.TheVariants.{Success, NotAuthorised}
+use Rattle.unit.specs.declared.fate.Offence.TheVariants.{NotAuthorised}
 use Rattle.unit.specs.declared.fate.Fate.TheVariants.{NotObeyed, Obeyed, Replied}
+use Rattle.unit.specs.declared.clock.Elapsed.{Elapsed}
 use Rattle.unit.specs.declared.clock.Clock.{Clock}
-use Rattle.unit.specs.declared.clock.Waiting.{Waiting}
-use Rattle.unit.specs.declared.clock.Waiting.TheVariants.{NoValue, Value}
 use Rattle.unit.specs.declared.unit.Unit.{Unit as TheUnit}
-use Rattle.demands.specs.Terminal.{Terminal, read_of, path_in, Call, after, Every}
+use Rattle.demands.specs.Terminal.{Terminal, read_of, Call, after, Every}
 use Rattle.demands.specs.ReplyDue.{Written}
 use Rattle.demands.specs.Refusals.{RowByRow}
 use Rattle.demands.specs.Bounds.{OfBytes, Lends, StaysUsable}
@@ -57,24 +55,24 @@ does_nothing = faking (λ u p lent. leaving (without_reply Obeyed u) lent)
 -- A reply with status 0 and without data, counted as such, and no effect.
 abbrev pub acknowledged : TheUnit → Header → Path → Lent → Outcome
 acknowledged u h path lent = record {
-  answer = record { unit = counted_unit (Replied Success) u; fate = Replied Success; length = reply_length path h 0 0 };
+  answer = record { unit = counted_unit (Replied (Ok tt)) u; fate = Replied (Ok tt); length = reply_length path h 0 0 };
   memory = lent.memory;
   reply = replied path h 0 [] lent.reply;
 }
 
 -- It replies status 0 to every command.
-abbrev pub zero_to : Reading → TheUnit → Arrived → Lent → Outcome
-zero_to (Refused why) u p lent = take_packet u p lent
-zero_to Time u p lent = take_packet u p lent
-zero_to (Command h) u p lent = acknowledged u h (path_in u p) lent
+abbrev pub zero_to : Result Packet Refusal → TheUnit → Arrived → Lent → Outcome
+zero_to (Err why) u p lent = take_packet u p lent
+zero_to (Ok Time) u p lent = take_packet u p lent
+zero_to (Ok (Command c)) u p lent = acknowledged u c.header c.path lent
 
 abbrev pub replies_zero : Terminal
-replies_zero = faking (λ u p lent. zero_to (read_of u p).reading u p lent)
+replies_zero = faking (λ u p lent. zero_to (read_of u p) u p lent)
 
 -- It obeys the first packet, which it knows by its total, and only acknowledges the rest.
 abbrev pub obeys_first : Terminal
 obeys_first = faking (λ u p lent.
-    cond (eqb (get_or u.counters total 0) 0) (take_packet u p lent) (zero_to (read_of u p).reading u p lent))
+    cond (eqb (get_or u.counters total 0) 0) (take_packet u p lent) (zero_to (read_of u p) u p lent))
 
 -- It invents its counters.
 abbrev pub invented : Outcome → Outcome
@@ -128,14 +126,14 @@ abbrev pub clears_memory : Terminal
 clears_memory = faking (λ u p lent. cleared (take_packet u p lent))
 
 -- Its packets and ticks are ours, but at the wrap seconds go up whatever the fraction: document 01's terminal before request 3.
-abbrev pub always_up : Waiting → Clock → ℕ → Clock
-always_up (Value w) c v = after_code c v
-always_up NoValue c v =
+abbrev pub always_up : Option Elapsed → Clock → ℕ → Clock
+always_up (Some w) c v = after_code c v
+always_up None c v =
     cond (eqb c.last 63 && eqb v 0)
     (record {
       last = v;
       elapsed = record { value = time_of ((seconds_of c.elapsed.value + 1) % 2 ^ 32) 0; epoch = c.elapsed.epoch };
-      waiting = NoValue;
+      waiting = None;
     })
     (after_code c v)
 
@@ -154,7 +152,7 @@ reads_the_zero = faking take_read
 abbrev pub shifts_data : Terminal
 shifts_data = faking (λ u p lent.
     cond (usable u (length lent.memory) && is_link u p.link)
-    (done (judged_as (read_of u p) u p (sizes_of lent)) u p.packet p.link lent) (take_packet u p lent))
+    (done (ruling_on (read_of u p) u p (sizes_of lent)) u p.packet p.link lent) (take_packet u p lent))
 
 -- It takes the zero off where the instruction is 5C, a swap with a reply and no reply address.
 abbrev pub swaps_alone : Terminal
@@ -175,9 +173,9 @@ abbrev pub time_from : ℕ → List ℕ → TheTime
 time_from at p = record { epoch = get_or p 2 0; when = cond (eqb (get_or p 3 0 % 2) 1) AtOnce AtWrap; value = number (part at 7 p) }
 
 -- It takes time packets by the newer preamble, but rounds to the nearest tick instead of cutting off: by the first octet that is cut off.
-abbrev pub rounded : List ℕ → TimeReading → TimeReading
-rounded p ThrownAway = ThrownAway
-rounded p (Taken t) = Taken (record {
+abbrev pub rounded : List ℕ → Option TheTime → Option TheTime
+rounded p None = None
+rounded p (Some t) = Some (record {
   epoch = t.epoch;
   when = t.when;
   value = t.value + get_or (part (11 + of_seconds p) (of_fraction p) p) 0 0 / 0x80;
@@ -195,12 +193,12 @@ sound_but p end logical timeNumber =
 -- It does not look at the octets of seconds that were added, and so drops what they hold.
 abbrev pub drops_seconds : Terminal
 drops_seconds = reading (λ p end logical timeNumber.
-    cond (eqb (length p) (12 + of_seconds p + of_fraction p) && sound_but p end logical timeNumber) (Taken (time_from (4 + of_seconds p) p)) ThrownAway)
+    cond (eqb (length p) (12 + of_seconds p + of_fraction p) && sound_but p end logical timeNumber) (Some (time_from (4 + of_seconds p) p)) None)
 
 -- It takes twelve bytes, whatever their second octet adds, as if nothing were added.
 abbrev pub counts_nothing : Terminal
 counts_nothing = reading (λ p end logical timeNumber.
-    cond (eqb (length p) 12 && sound_but p end logical timeNumber) (Taken (time_from 4 p)) (read_time p end logical timeNumber))
+    cond (eqb (length p) 12 && sound_but p end logical timeNumber) (Some (time_from 4 p)) (read_time p end logical timeNumber))
 
 -- ---- which demand shuts out which
 

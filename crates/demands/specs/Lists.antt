@@ -1,18 +1,17 @@
 -- Demand 3: two lists of RMAP commands, merged (document 01, 'Span' and 'What a promise has to say').
-use Rattle.std.specs.Prelude.{◌≡◌, Bool, true, false, not, ◌&&◌, ◌||◌, List, [], ◌∷◌, ℕ, ◌+◌, leb, ltb, get_or}
+use Rattle.std.specs.Prelude.{◌≡◌, Bool, true, false, not, ◌&&◌, ◌||◌, List, [], ◌∷◌, ℕ, ◌+◌, leb, ltb, get_or, Option, Some, None, Result, Ok, Err}
 use Rattle.packets.specs.Instruction.{is_write, is_rmw}
 use Rattle.packets.specs.Header.{kind_in}
 use Rattle.packets.specs.declared.header.Header.{Header}
-use Rattle.packets.specs.declared.reading.Reading.{Reading}
-use Rattle.packets.specs.declared.reading.Reading.TheVariants.{Refused, Time, Command}
+use Rattle.packets.specs.declared.reading.Packet.{Packet}
+use Rattle.packets.specs.declared.reading.Refusal.{Refusal}
+use Rattle.packets.specs.declared.reading.Packet.TheVariants.{Time, Command}
 use Rattle.unit.specs.Some.{some}
 use Rattle.unit.specs.Fate.{fate_status}
 use Rattle.unit.specs.Given.{Arrived, Lent}
 use Rattle.unit.specs.Decide.{span_size}
 use Rattle.unit.specs.Calls.{Outcome}
 use Rattle.unit.specs.declared.fate.Fate.{Fate}
-use Rattle.unit.specs.declared.fate.Told.{Told}
-use Rattle.unit.specs.declared.fate.Told.TheVariants.{Nothing, Byte}
 use Rattle.unit.specs.declared.unit.Unit.{Unit as TheUnit}
 use Rattle.demands.specs.Terminal.{Terminal, ours, read_of, Every}
 
@@ -81,33 +80,33 @@ ends t s (c ∷ cs) = ends t (next_of t s c) cs
 -- ---- what a command refers to
 
 -- Given no status, or refused with a status from 2 to 12 other than 4 to 7: no byte. (F0 to F3 are plug-and-play's.)
-abbrev pub refers_to_none : Told → Bool
-refers_to_none Nothing = true
-refers_to_none (Byte status) = leb 2 status && leb status 12 && not (leb 4 status && leb status 7)
+abbrev pub refers_to_none : Option ℕ → Bool
+refers_to_none None = true
+refers_to_none (Some status) = leb 2 status && leb status 12 && not (leb 4 status && leb status 7)
 
 -- The span: from A on, as many bytes as its size.
 abbrev pub in_span : Header → ℕ → Bool
 in_span h i = leb h.address i && ltb i (h.address + span_size h)
 
-abbrev pub span_of : Reading → ℕ → Bool
-span_of (Refused why) i = false
-span_of Time i = false
-span_of (Command h) i = in_span h i
+abbrev pub span_of : Result Packet Refusal → ℕ → Bool
+span_of (Err why) i = false
+span_of (Ok Time) i = false
+span_of (Ok (Command c)) i = in_span c.header i
 
 -- Whether a command refers to byte i. Its fate is the one that it has in the state s; that it has the same one later in a list, alone or merged, is
 -- part of what is shown.
 unfoldable pub refers : State → Sent → ℕ → Bool
 refers s c i =
-    not (refers_to_none (fate_status (outcome_of ours s c).answer.fate)) && span_of (read_of s.unit c.arrived).reading i
+    not (refers_to_none (fate_status (outcome_of ours s c).answer.fate)) && span_of (read_of s.unit c.arrived) i
 
 -- Whether it is a write or an RMW that refers to byte i.
-abbrev pub is_store : Reading → Bool
-is_store (Refused why) = false
-is_store Time = false
-is_store (Command h) = is_write h.instruction || is_rmw (kind_in h)
+abbrev pub is_store : Result Packet Refusal → Bool
+is_store (Err why) = false
+is_store (Ok Time) = false
+is_store (Ok (Command c)) = is_write c.header.instruction || is_rmw (kind_in c.header)
 
 unfoldable pub stores : State → Sent → ℕ → Bool
-stores s c i = is_store (read_of s.unit c.arrived).reading && refers s c i
+stores s c i = is_store (read_of s.unit c.arrived) && refers s c i
 
 -- No byte that a write or an RMW of one list refers to is referred to by any command of the other.
 abbrev pub Clear : State → List Sent → List Sent → Type 0

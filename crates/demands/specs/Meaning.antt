@@ -1,19 +1,16 @@
 -- Demand 2: each packet does what document 01 says, byte by byte.
-use Rattle.std.specs.Prelude.{◌≡◌, true, false, ◌&&◌, ◌||◌, ◌⊎◌, ◌≢◌, List, [], ◌∷◌, ℕ, ◌<◌, eqb, length, get_or}
+use Rattle.std.specs.Prelude.{◌≡◌, true, false, ◌&&◌, ◌||◌, ◌⊎◌, ◌≢◌, List, [], ◌∷◌, ℕ, ◌<◌, eqb, length, get_or, Option, Some}
 use Rattle.octets.specs.Numbers.{Digits}
 use Rattle.packets.specs.Instruction.{is_rmw, is_write, is_verified}
 use Rattle.packets.specs.Header.{kind_in}
 use Rattle.packets.specs.declared.header.Header.{Header}
 use Rattle.unit.specs.Some.{some}
-use Rattle.unit.specs.Fate.{fate_status}
+use Rattle.unit.specs.Fate.{Status, fate_status}
 use Rattle.unit.specs.Owner.{is_owner}
 use Rattle.unit.specs.Fields.{device_id, time_code_counter, divider, missing, row_of, values_of}
 use Rattle.unit.specs.Given.{Arrived, as_read, Lent, sizes_of}
 use Rattle.unit.specs.Calls.{Outcome, take_packet, take_time_code, take_ticks}
-use Rattle.unit.specs.declared.fate.Status.{Status}
 use Rattle.unit.specs.declared.fate.Fate.TheVariants.{Replied}
-use Rattle.unit.specs.declared.fate.Told.{Told}
-use Rattle.unit.specs.declared.fate.Told.TheVariants.{Byte}
 use Rattle.unit.specs.declared.unit.Unit.{Unit as TheUnit}
 use Rattle.unit.specs.Judge.{judged, fate_in, length_in}
 use Rattle.unit.proofs.judge.Reads.{Learnt as promise-of-judge}
@@ -56,39 +53,39 @@ TicksPromise =
 -- What the promise of `judge` claims: what the packet comes to, from the sizes of what would be lent.
 abbrev pub JudgePromise : Type 0
 JudgePromise =
-    (κs : _) (unit : _) (bytes : _) (end : _) (link : _) (sizes : _) (judgement : _) (exit : _)
-    → promise-of-judge κs (unit, (bytes, (end, (link, (sizes, tt))))) judgement exit
-    → judgement ≡ judged unit (as_read (record { packet = bytes.now; end = end; link = link })) sizes
+    (κs : _) (unit : _) (bytes : _) (end : _) (link : _) (sizes : _) (ruling : _) (exit : _)
+    → promise-of-judge κs (unit, (bytes, (end, (link, (sizes, tt))))) ruling exit
+    → ruling ≡ judged unit (as_read (record { packet = bytes.now; end = end; link = link })) sizes
 
 -- What is judged is what becomes of the packet: its fate, with the status, and the length of the reply.
 abbrev pub AsJudged : Terminal → Type 0
 AsJudged t =
     (u : TheUnit) (p : Arrived) (lent : Lent)
-    → ((t.packet u p lent).answer.fate ≡ fate_in (judged u (as_read p) (sizes_of lent)).ruling)
-    × ((t.packet u p lent).answer.length ≡ length_in (judged u (as_read p) (sizes_of lent)).ruling)
+    → ((t.packet u p lent).answer.fate ≡ fate_in (judged u (as_read p) (sizes_of lent)))
+    × ((t.packet u p lent).answer.length ≡ length_in (judged u (as_read p) (sizes_of lent)))
 
 -- So of the code: the fate, with its status, and the length of the reply that `judge` tells are those that `take_packet` answers, of the same unit, to
 -- the same bytes, end and link, with memory and a reply buffer of those sizes.
 abbrev pub JudgeForetells : Type 0
 JudgeForetells =
-    (κs : _) (unit : _) (bytes : _) (end : _) (link : _) (sizes : _) (judgement : _) (exit : _)
+    (κs : _) (unit : _) (bytes : _) (end : _) (link : _) (sizes : _) (ruling : _) (exit : _)
     (κs' : _) (again : _) (memory : _) (reply : _) (answer : _) (unit' : _) (again' : _) (end' : _) (link' : _) (memory' : _) (reply' : _)
-    → promise-of-judge κs (unit, (bytes, (end, (link, (sizes, tt))))) judgement exit
+    → promise-of-judge κs (unit, (bytes, (end, (link, (sizes, tt))))) ruling exit
     → promise-of-take_packet κs' (unit, (again, (end, (link, (memory, (reply, tt)))))) answer (unit', (again', (end', (link', (memory', (reply', tt))))))
     → bytes.now ≡ again.now → sizes ≡ record { memory = length memory.now; reply = length reply.now }
-    → (answer.fate ≡ fate_in judgement.ruling) × (answer.length ≡ length_in judgement.ruling)
+    → (answer.fate ≡ fate_in ruling) × (answer.length ≡ length_in ruling)
 
 -- What follows are consequences of the equation that the customer named.
 
 -- ---- refused, and memory unchanged
 
 -- A command stores with a status: a write or an RMW with 0; and a write without verify also with 4, 5, 6 or 7.
-abbrev pub StoresWith : Header → Told → Type 0
+abbrev pub StoresWith : Header → Option ℕ → Type 0
 StoresWith h told =
-    (((is_write h.instruction || is_rmw (kind_in h)) ≡ true) × (told ≡ Byte 0))
+    (((is_write h.instruction || is_rmw (kind_in h)) ≡ true) × (told ≡ Some 0))
     ⊎ ((is_write h.instruction ≡ true)
     × (is_verified h.instruction ≡ false)
-    × ((status : ℕ) × (told ≡ Byte status) × (some (eqb status) (4 ∷ 5 ∷ 6 ∷ 7 ∷ []) ≡ true)))
+    × ((status : ℕ) × (told ≡ Some status) × (some (eqb status) (4 ∷ 5 ∷ 6 ∷ 7 ∷ []) ≡ true)))
 
 -- Memory is as it was, or the packet is an RMAP command that stores with the status it has.
 abbrev pub KeepsOrStores : TheUnit → Arrived → Lent → Outcome → Type 0
@@ -105,7 +102,7 @@ abbrev pub RefusedChangesNone : Terminal → Type 0
 RefusedChangesNone t =
     (u : TheUnit) (p : Arrived) (lent : Lent) (h : Header) → IsCommand u p h
     → ((is_write h.instruction && is_verified h.instruction) || is_rmw (kind_in h)) ≡ true
-    → fate_status (t.packet u p lent).answer.fate ≢ Byte 0 → (t.packet u p lent).memory ≡ lent.memory
+    → fate_status (t.packet u p lent).answer.fate ≢ Some 0 → (t.packet u p lent).memory ≡ lent.memory
 
 -- ---- what can be owned
 

@@ -1,5 +1,5 @@
 -- Names kept: what is not there is refused, never answered (document 01, 'Fields' and 'Span').
-use Rattle.std.specs.Prelude.{◌≡◌, true, false, ◌&&◌, ◌≢◌, List, [], ◌∷◌, map, ℕ, ◌+◌, ◌<◌, ◌≤◌, eqb, length}
+use Rattle.std.specs.Prelude.{◌≡◌, true, false, ◌&&◌, ◌≢◌, List, [], ◌∷◌, map, ℕ, ◌+◌, ◌<◌, ◌≤◌, eqb, length, Some}
 use Rattle.packets.specs.Instruction.{wants_reply}
 use Rattle.packets.specs.Header.{kind_in}
 use Rattle.packets.specs.declared.header.Header.{Header}
@@ -11,7 +11,6 @@ use Rattle.unit.specs.Usable.{usable}
 use Rattle.unit.specs.Given.{Arrived, Lent}
 use Rattle.unit.specs.Decide.{opening_status, span_size, field_count, names_fields}
 use Rattle.unit.specs.Judge.{is_link}
-use Rattle.unit.specs.declared.fate.Told.TheVariants.{Byte}
 use Rattle.unit.specs.declared.unit.Unit.{Unit as TheUnit}
 use Rattle.demands.specs.Terminal.{Terminal, IsCommand}
 use Rattle.demands.specs.Refusals.{length_due}
@@ -37,7 +36,7 @@ NamesMissing h = (k : ℕ) × (k < field_count (kind_in h) h.length) × (some (e
 abbrev pub MissingRefused : Terminal → Type 0
 MissingRefused t =
     (u : TheUnit) (p : Arrived) (lent : Lent) (h : Header) → IsCommand u p h → h.protocol ≡ 0x03 → NamesMissing h
-    → fate_status (t.packet u p lent).answer.fate ≢ Byte 0
+    → fate_status (t.packet u p lent).answer.fate ≢ Some 0
 
 -- Where it got past the checks before that one (1, 2; 2, 3, 12 and 10), and its reply, if asked for, has room, it has F1.
 abbrev pub MissingIsF1 : Terminal → Type 0
@@ -45,7 +44,7 @@ MissingIsF1 t =
     (u : TheUnit) (p : Arrived) (lent : Lent) (h : Header) → IsCommand u p h → h.protocol ≡ 0x03 → NamesMissing h
     → usable u (length lent.memory) ≡ true → is_link u p.link ≡ true → is_success (opening_status h 0x00 0xFE) ≡ true → names_fields h ≡ true
     → (wants_reply h.instruction ≡ true → length_due u p h ≤ length lent.reply)
-    → fate_status (t.packet u p lent).answer.fate ≡ Byte 0xF1
+    → fate_status (t.packet u p lent).answer.fate ≡ Some 0xF1
 
 -- ---- memory
 
@@ -58,4 +57,4 @@ WindowWithRight u h =
 abbrev pub ObeyedInWindow : Terminal → Type 0
 ObeyedInWindow t =
     (u : TheUnit) (p : Arrived) (lent : Lent) (h : Header) → IsCommand u p h → h.protocol ≡ 0x01
-    → fate_status (t.packet u p lent).answer.fate ≡ Byte 0 → WindowWithRight u h
+    → fate_status (t.packet u p lent).answer.fate ≡ Some 0 → WindowWithRight u h

@@ -43,14 +43,14 @@ use Rattle.packets.proofs.write_reply.Reads.{Asked as asked·write_reply, Learnt
 use Rattle.packets.proofs.write_repeated_reply.Reads.{Asked as asked·write_repeated_reply, Learnt as promise·write_repeated_reply}
 use Rattle.packets.proofs.write_reply_around.Reads.{Asked as asked·write_reply_around, Learnt as promise·write_reply_around}
 use Rattle.packets.proofs.data_place.Reads.{Asked as asked·data_place, Learnt as promise·data_place}
-use Rattle.packets.proofs.time.TimeReading.number.Reads.{Asked as asked·TimeReading·number, Learnt as promise·TimeReading·number}
+use Rattle.packets.proofs.time_number.Reads.{Asked as asked·time_number, Learnt as promise·time_number}
 use Rattle.packets.proofs.read_time.Reads.{Asked as asked·read_time, Learnt as promise·read_time}
-use Rattle.packets.proofs.ccsds.CcsdsReading.number.Reads.{Asked as asked·CcsdsReading·number, Learnt as promise·CcsdsReading·number}
+use Rattle.packets.proofs.ccsds_number.Reads.{Asked as asked·ccsds_number, Learnt as promise·ccsds_number}
 use Rattle.packets.proofs.ccsds.Unsent.number.Reads.{Asked as asked·Unsent·number, Learnt as promise·Unsent·number}
 use Rattle.packets.proofs.read_ccsds.Reads.{Asked as asked·read_ccsds, Learnt as promise·read_ccsds}
 use Rattle.packets.proofs.space_packet.Reads.{Asked as asked·space_packet, Learnt as promise·space_packet}
 use Rattle.packets.proofs.write_ccsds.Reads.{Asked as asked·write_ccsds, Learnt as promise·write_ccsds}
-use Rattle.unit.proofs.fate.Status.byte.Reads.{Asked as asked·Status·byte, Learnt as promise·Status·byte}
+use Rattle.unit.proofs.status_byte.Reads.{Asked as asked·status_byte, Learnt as promise·status_byte}
 use Rattle.unit.proofs.fate.Fate.number.Reads.{Asked as asked·Fate·number, Learnt as promise·Fate·number}
 use Rattle.unit.proofs.fate.Fate.status.Reads.{Asked as asked·Fate·status, Learnt as promise·Fate·status}
 use Rattle.unit.proofs.judge.Reads.{Asked as asked·judge, Learnt as promise·judge}
@@ -146,9 +146,9 @@ PacketsDetermined =
     × (OneResult promise·write_reply_around)
     × (OneExit promise·write_reply_around (λ κs e. (fifth e).now))  -- the reply buffer
     × (OneResult promise·data_place)
-    × (OneResult promise·TimeReading·number)
+    × (OneResult promise·time_number)
     × (OneResult promise·read_time)
-    × (OneResult promise·CcsdsReading·number)
+    × (OneResult promise·ccsds_number)
     × (OneResult promise·Unsent·number)
     × (OneResult promise·read_ccsds)
     × (OnePart promise·space_packet (λ κs z. z.now))
@@ -157,7 +157,7 @@ PacketsDetermined =
 
 abbrev pub UnitDetermined : Type 0
 UnitDetermined =
-    (OneResult promise·Status·byte)
+    (OneResult promise·status_byte)
     × (OneResult promise·Fate·number)
     × (OneResult promise·Fate·status)
     × (OneResult promise·judge)
@@ -238,9 +238,9 @@ PacketsAskNothing =
     × AsksNothing asked·write_repeated_reply
     × AsksNothing asked·write_reply_around
     × AsksNothing asked·data_place
-    × AsksNothing asked·TimeReading·number
+    × AsksNothing asked·time_number
     × AsksNothing asked·read_time
-    × AsksNothing asked·CcsdsReading·number
+    × AsksNothing asked·ccsds_number
     × AsksNothing asked·Unsent·number
     × AsksNothing asked·read_ccsds
     × AsksNothing asked·space_packet
@@ -248,7 +248,7 @@ PacketsAskNothing =
 
 abbrev pub UnitAsksNothing : Type 0
 UnitAsksNothing =
-    AsksNothing asked·Status·byte
+    AsksNothing asked·status_byte
     × AsksNothing asked·Fate·number
     × AsksNothing asked·Fate·status
     × AsksNothing asked·judge

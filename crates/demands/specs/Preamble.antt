@@ -3,7 +3,7 @@
 --
 -- Bytes and bits are taken apart and put together in numerals here, and not by the words that `read_time` is made of: these and the code could slip together, and what is
 -- said here has to show it.
-use Rattle.std.specs.Prelude.{◌≡◌, Bool, true, cond, ◌&&◌, ◌||◌, ◌⊎◌, List, [], ◌∷◌, ◌++◌, ℕ, ◌+◌, ◌-◌, ◌*◌, ◌/◌, ◌%◌, ◌^◌, ◌<◌, ◌≤◌, eqb, length, get_or, replicate}
+use Rattle.std.specs.Prelude.{◌≡◌, Bool, true, cond, ◌&&◌, ◌||◌, ◌⊎◌, List, [], ◌∷◌, ◌++◌, ℕ, ◌+◌, ◌-◌, ◌*◌, ◌/◌, ◌%◌, ◌^◌, ◌<◌, ◌≤◌, eqb, length, get_or, replicate, None, Some, Option, Result, Ok, Err}
 use Rattle.octets.specs.Places.{part}
 use Rattle.octets.specs.Numbers.{number, bytes_of, Digits}
 use Rattle.octets.specs.Crc.{crc, with_crc}
@@ -11,24 +11,22 @@ use Rattle.packets.specs.Reading.{is_eop}
 use Rattle.packets.specs.Time.{read_time}
 use Rattle.packets.specs.declared.reading.End.{End}
 use Rattle.packets.specs.declared.reading.End.TheVariants.{Eop}
-use Rattle.packets.specs.declared.reading.Reading.{Reading}
-use Rattle.packets.specs.declared.reading.Reading.TheVariants.{Refused, Time, Command}
+use Rattle.packets.specs.declared.reading.Packet.{Packet}
+use Rattle.packets.specs.declared.reading.Refusal.{Refusal}
+use Rattle.packets.specs.declared.reading.Packet.TheVariants.{Time, Command}
 use Rattle.packets.specs.declared.time.When.{When}
 use Rattle.packets.specs.declared.time.When.TheVariants.{AtWrap, AtOnce}
 use Rattle.packets.specs.declared.time.Time.{Time as TheTime}
-use Rattle.packets.specs.declared.time.TimeReading.{TimeReading}
-use Rattle.packets.specs.declared.time.TimeReading.TheVariants.{ThrownAway, Taken}
 use Rattle.unit.specs.Fate.{fate_number}
 use Rattle.unit.specs.Usable.{usable, usable_unit}
 use Rattle.unit.specs.Act.{with_clock}
 use Rattle.unit.specs.Given.{Arrived, as_read, Lent}
 use Rattle.unit.specs.Judge.{time_ruling, is_link}
-use Rattle.unit.specs.Calls.{Outcome, done_by, take_packet, take_time_code, take_ticks}
+use Rattle.unit.specs.Calls.{Outcome, done, take_packet, take_time_code, take_ticks}
 use Rattle.unit.specs.declared.clock.Clock.{Clock}
 use Rattle.unit.specs.declared.clock.Elapsed.{Elapsed}
-use Rattle.unit.specs.declared.clock.Waiting.TheVariants.{NoValue, Value}
 use Rattle.unit.specs.declared.unit.Unit.{Unit as TheUnit}
-use Rattle.demands.specs.Terminal.{Terminal, ours, read_of, path_in, Call, packet, time_code, ticks, after}
+use Rattle.demands.specs.Terminal.{Terminal, ours, read_of, Call, packet, time_code, ticks, after}
 use Rattle.demands.specs.Refusals.{counted_as, NoReply, OnlyCounted}
 use Rattle.demands.specs.Seconds.{et_of, NotTaken, Wraps}
 use Rattle.demands.specs.Zero.{BeginsOtherwise}
@@ -68,8 +66,8 @@ MadeOf u p time zeros cut =
 
 -- The clock behind it: at once ET is that time, with its epoch code, and nothing waits; else that time waits, and ET stays. The last Time-Code stays.
 abbrev pub clock_set : When → Clock → TheTime → Clock
-clock_set AtOnce c time = record { last = c.last; elapsed = record { value = time.value; epoch = time.epoch }; waiting = NoValue }
-clock_set AtWrap c time = record { last = c.last; elapsed = c.elapsed; waiting = Value (record { value = time.value; epoch = time.epoch }) }
+clock_set AtOnce c time = record { last = c.last; elapsed = record { value = time.value; epoch = time.epoch }; waiting = None }
+clock_set AtWrap c time = record { last = c.last; elapsed = c.elapsed; waiting = Some (record { value = time.value; epoch = time.epoch }) }
 
 -- It gets 19, and sets the time.
 abbrev pub Sets : TheUnit → Lent → TheTime → Outcome → Type 0
@@ -117,7 +115,7 @@ abbrev pub GreatestTick : Terminal → Type 0
 GreatestTick t =
     (u : TheUnit) (p : Arrived) (lent : Lent) → Digits 256 p.packet → number_got (t.packet u p lent) ≡ 19
     → (octet_in p % 2 ≡ 1 → IsGreatest p (et_of (t.packet u p lent).answer.unit))
-    × (octet_in p % 2 ≡ 0 → (w : Elapsed) × ((t.packet u p lent).answer.unit.clock.waiting ≡ Value w) × IsGreatest p w.value)
+    × (octet_in p % 2 ≡ 0 → (w : Elapsed) × ((t.packet u p lent).answer.unit.clock.waiting ≡ Some w) × IsGreatest p w.value)
 
 -- Calls among which no time packet is taken, and no Time-Code is a wrap.
 abbrev pub BeforeWrap : Terminal → TheUnit → List Call → Type 0
@@ -156,20 +154,20 @@ was_time_packet p end logical timeNumber =
     && (eqb (get_or p 3 0) 0x00 || eqb (get_or p 3 0) 0x01)
     && eqb (crc p) 0
 
-abbrev pub was_read : List ℕ → End → ℕ → ℕ → TimeReading
+abbrev pub was_read : List ℕ → End → ℕ → ℕ → Option TheTime
 was_read p end logical timeNumber =
-    cond (was_time_packet p end logical timeNumber) (Taken (record { epoch = get_or p 2 0; when = cond (eqb (get_or p 3 0) 0x01) AtOnce AtWrap; value = number (part 4 7 p) })) ThrownAway
+    cond (was_time_packet p end logical timeNumber) (Some (record { epoch = get_or p 2 0; when = cond (eqb (get_or p 3 0) 0x01) AtOnce AtWrap; value = number (part 4 7 p) })) None
 
 -- The terminal that reads time packets so, and does all else as ours.
-abbrev pub take_by : (List ℕ → End → ℕ → ℕ → TimeReading) → Reading → TheUnit → Arrived → Lent → Outcome
-take_by reads (Refused why) u p lent = take_packet u p lent
-take_by reads (Command h) u p lent = take_packet u p lent
-take_by reads Time u p lent =
+abbrev pub take_by : (List ℕ → End → ℕ → ℕ → Option TheTime) → Result Packet Refusal → TheUnit → Arrived → Lent → Outcome
+take_by reads (Err why) u p lent = take_packet u p lent
+take_by reads (Ok (Command c)) u p lent = take_packet u p lent
+take_by reads (Ok Time) u p lent =
     cond (usable u (length lent.memory) && is_link u p.link)
-    (done_by (time_ruling (reads (as_read p).packet p.end u.logical u.number)) (path_in u p) u (as_read p).packet p.link lent) (take_packet u p lent)
+    (done (time_ruling (reads (as_read p).packet p.end u.logical u.number)) u (as_read p).packet p.link lent) (take_packet u p lent)
 
-abbrev pub reading : (List ℕ → End → ℕ → ℕ → TimeReading) → Terminal
-reading reads = record { packet = λ u p lent. take_by reads (read_of u p).reading u p lent; time_code = take_time_code; ticks = take_ticks }
+abbrev pub reading : (List ℕ → End → ℕ → ℕ → Option TheTime) → Terminal
+reading reads = record { packet = λ u p lent. take_by reads (read_of u p) u p lent; time_code = take_time_code; ticks = take_ticks }
 
 abbrev pub before : Terminal
 before = reading was_read

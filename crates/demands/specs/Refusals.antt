@@ -1,5 +1,5 @@
 -- Demand 1: the table of numbers, row by row (document 01, 'Numbers a caller gets' and 'Effects').
-use Rattle.std.specs.Prelude.{◌≡◌, Bool, true, false, cond, not, ◌&&◌, ◌⊎◌, ◌↔◌, List, [], ◌∷◌, ℕ, ◌+◌, ◌-◌, ◌%◌, ◌^◌, ◌<◌, min, eqb, length, drop}
+use Rattle.std.specs.Prelude.{◌≡◌, Bool, true, false, cond, not, ◌&&◌, ◌⊎◌, ◌↔◌, List, [], ◌∷◌, ℕ, ◌+◌, ◌-◌, ◌%◌, ◌^◌, ◌<◌, min, eqb, length, drop, Option, Some, None, Err, Ok}
 use Rattle.octets.specs.Places.{part, placed}
 use Rattle.octets.specs.Numbers.{Digits, number}
 use Rattle.octets.specs.Crc.{crc}
@@ -11,12 +11,10 @@ use Rattle.packets.specs.Time.{read_time}
 use Rattle.packets.specs.declared.instruction.Kind.{Kind}
 use Rattle.packets.specs.declared.instruction.Kind.TheVariants.{Unused, Read, ReadModifyWrite, Write}
 use Rattle.packets.specs.declared.header.Header.{Header}
-use Rattle.packets.specs.declared.reading.Reading.TheVariants.{Refused, Time}
+use Rattle.packets.specs.declared.reading.Packet.TheVariants.{Time}
 use Rattle.packets.specs.declared.time.Time.{Time as TheTime}
-use Rattle.packets.specs.declared.time.TimeReading.{TimeReading}
-use Rattle.packets.specs.declared.time.TimeReading.TheVariants.{ThrownAway, Taken}
 use Rattle.unit.specs.Some.{some}
-use Rattle.unit.specs.Fate.{byte_of, is_success, or_else, fate_number, fate_status}
+use Rattle.unit.specs.Fate.{Status, byte_of, is_success, or_else, fate_number, fate_status}
 use Rattle.unit.specs.Counters.{bumped_at, total}
 use Rattle.unit.specs.Clock.{after_time, after_code, after_ticks}
 use Rattle.unit.specs.Usable.{usable, usable_unit}
@@ -27,11 +25,8 @@ use Rattle.unit.specs.Owner.{swapped}
 use Rattle.unit.specs.Act.{combined, last_of, with_counters, with_clock, with_owner, field_written}
 use Rattle.unit.specs.Judge.{is_link}
 use Rattle.unit.specs.Calls.{Outcome}
-use Rattle.unit.specs.declared.fate.Status.{Status}
 use Rattle.unit.specs.declared.fate.Fate.{Fate}
 use Rattle.unit.specs.declared.fate.Fate.TheVariants.{TimeChanged, Unusable, NoSuchLink, NoRoom, Unread, TimeThrownAway, NotObeyed, Obeyed, TimeTaken, Replied}
-use Rattle.unit.specs.declared.fate.Told.{Told}
-use Rattle.unit.specs.declared.fate.Told.TheVariants.{Nothing, Byte}
 use Rattle.unit.specs.declared.clock.Clock.{Clock}
 use Rattle.unit.specs.declared.calls.Answer.{Answer}
 use Rattle.unit.specs.declared.unit.Unit.{Unit as TheUnit}
@@ -110,8 +105,8 @@ abbrev pub length_due : TheUnit → Arrived → Header → ℕ
 length_due u p h = reply_length (path_in u p) h (byte_of (status_due u p h)) (reply_count h)
 
 -- The packet is read as a time packet, thrown away or taken.
-abbrev pub TimeReadAs : TheUnit → Arrived → TimeReading → Type 0
-TimeReadAs u p time = ReadAs u p Time × (read_time (as_read p).packet p.end u.logical u.number ≡ time)
+abbrev pub TimeReadAs : TheUnit → Arrived → Option TheTime → Type 0
+TimeReadAs u p time = ReadAs u p (Ok Time) × (read_time (as_read p).packet p.end u.logical u.number ≡ time)
 
 -- ---- the rows
 
@@ -127,7 +122,7 @@ OnlyCounted number u lent o = (o.answer.unit ≡ counted_as number u) × (o.memo
 abbrev pub TimeSet : TheUnit → Arrived → Lent → Outcome → Type 0
 TimeSet u p lent o =
     (t : TheTime)
-    × TimeReadAs u p (Taken t)
+    × TimeReadAs u p (Some t)
     × (o.answer.unit ≡ counted_as 19 (with_clock u (after_time u.clock t)))
     × (o.memory ≡ lent.memory)
     × NoReply lent o
@@ -160,9 +155,9 @@ Leaves TimeChanged u p lent o = ⊥  -- 0 is no packet's
 Leaves Unusable u p lent o = Unchanged u lent o  -- 1
 Leaves NoSuchLink u p lent o = Unchanged u lent o  -- 2
 Leaves NoRoom u p lent o = Unchanged u lent o  -- 3
-Leaves (Unread why) u p lent o = ReadAs u p (Refused why) × OnlyCounted (number_of why) u lent o  -- 11 to 15
-Leaves TimeThrownAway u p lent o = TimeReadAs u p ThrownAway × OnlyCounted 16 u lent o
-Leaves (NotObeyed s) u p lent o = Refuses s 17 false u p lent o × NoReply lent o
+Leaves (Unread why) u p lent o = ReadAs u p (Err why) × OnlyCounted (number_of why) u lent o  -- 11 to 15
+Leaves TimeThrownAway u p lent o = TimeReadAs u p None × OnlyCounted 16 u lent o
+Leaves (NotObeyed offence) u p lent o = Refuses (Err offence) 17 false u p lent o × NoReply lent o
 Leaves Obeyed u p lent o = Obeys 18 false u p lent o × NoReply lent o
 Leaves TimeTaken u p lent o = TimeSet u p lent o  -- 19
 Leaves (Replied s) u p lent o =
@@ -220,9 +215,9 @@ abbrev pub statuses : List ℕ
 statuses = 0 ∷ 2 ∷ 3 ∷ 4 ∷ 5 ∷ 6 ∷ 7 ∷ 9 ∷ 10 ∷ 11 ∷ 12 ∷ 0xF0 ∷ 0xF1 ∷ 0xF2 ∷ 0xF3 ∷ []
 
 -- 17, 18 and 20 have a status, the others none.
-abbrev pub Carries : ℕ → Told → Type 0
-Carries number Nothing = some (eqb number) (17 ∷ 18 ∷ 20 ∷ []) ≡ false
-Carries number (Byte status) = (some (eqb number) (17 ∷ 18 ∷ 20 ∷ []) ≡ true) × (some (eqb status) statuses ≡ true)
+abbrev pub Carries : ℕ → Option ℕ → Type 0
+Carries number None = some (eqb number) (17 ∷ 18 ∷ 20 ∷ []) ≡ false
+Carries number (Some status) = (some (eqb number) (17 ∷ 18 ∷ 20 ∷ []) ≡ true) × (some (eqb status) statuses ≡ true)
 
 -- A packet gets one of these numbers (one, since a fate has one), with a status or none. Most of that holds of the enum `Fate`, whatever a terminal does; which
 -- fate a packet has is said by the rows.

@@ -10,12 +10,11 @@ use Rattle.packets.specs.Reply.{reply_head, carried}
 use Rattle.packets.specs.declared.instruction.Kind.{Kind}
 use Rattle.packets.specs.declared.instruction.Kind.TheVariants.{Unused, Read, ReadModifyWrite, Write}
 use Rattle.packets.specs.declared.header.Header.{Header}
-use Rattle.unit.specs.Fate.{byte_of}
+use Rattle.unit.specs.Fate.{Status, byte_of}
 use Rattle.unit.specs.Fields.{named, values_of, field_bytes}
 use Rattle.unit.specs.Given.{Arrived, Lent}
 use Rattle.unit.specs.Decide.{rmw_count}
 use Rattle.unit.specs.Calls.{Outcome}
-use Rattle.unit.specs.declared.fate.Status.{Status}
 use Rattle.unit.specs.declared.unit.Unit.{Unit as TheUnit}
 use Rattle.demands.specs.Terminal.{IsCommand, path_in}
 

@@ -1,12 +1,11 @@
 -- Why the Time-Code's wrap goes to the nearest second (document 01, 'Time', as request 3 of document 02 has it): it moves ET little, and an oscillator that is
 -- fast or slow by less than half a second does not show, where of the Time-Codes between two wraps all come, or none that sets the fraction. All of it is about
 -- wraps at which no value waits; a waiting value becomes ET, whatever ET is.
-use Rattle.std.specs.Prelude.{◌≡◌, true, ◌⊎◌, ◌≢◌, List, [], ◌∷◌, ℕ, ◌+◌, ◌-◌, ◌/◌, ◌%◌, ◌^◌, ◌<◌, ◌≤◌}
+use Rattle.std.specs.Prelude.{◌≡◌, true, ◌⊎◌, ◌≢◌, List, [], ◌∷◌, ℕ, ◌+◌, ◌-◌, ◌/◌, ◌%◌, ◌^◌, ◌<◌, ◌≤◌, None}
 use Rattle.unit.specs.Fate.{fate_number}
 use Rattle.unit.specs.Usable.{usable_unit}
 use Rattle.unit.specs.Clock.{seconds_of, fraction_of, time_of}
 use Rattle.unit.specs.Given.{Arrived, Lent}
-use Rattle.unit.specs.declared.clock.Waiting.TheVariants.{NoValue}
 use Rattle.unit.specs.declared.unit.Unit.{Unit as TheUnit}
 use Rattle.demands.specs.Terminal.{Terminal, Call, packet, time_code, ticks, after, Every}
 use Rattle.demands.specs.Bounds.{OfBytes}
@@ -32,7 +31,7 @@ abbrev pub Wraps : TheUnit → ℕ → Type 0
 Wraps u byte = (u.clock.last ≡ 63) × (byte % 2 ^ 6 ≡ 0)
 
 abbrev pub WrapsAlone : TheUnit → ℕ → Type 0
-WrapsAlone u byte = (usable_unit u ≡ true) × (u.clock.waiting ≡ NoValue) × Wraps u byte
+WrapsAlone u byte = (usable_unit u ≡ true) × (u.clock.waiting ≡ None) × Wraps u byte
 
 -- How far ET is ahead of an earlier one, modulo 2^56.
 abbrev pub ahead : ℕ → ℕ → ℕ

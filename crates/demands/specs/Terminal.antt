@@ -1,11 +1,12 @@
 -- What the demands speak of: a terminal's three calls, and histories of them (document 01, 'The terminal and its neighbours').
+use Rattle.std.specs.Prelude.{Result, Ok}
 use Rattle.std.specs.Prelude.{◌≡◌, List, [], ◌∷◌, ℕ}
-use Rattle.packets.specs.Reading.{read_packet}
+use Rattle.packets.specs.Reading.{read_packet, path_read}
 use Rattle.packets.specs.declared.header.Header.{Header}
 use Rattle.packets.specs.declared.path.Path.{Path}
 use Rattle.packets.specs.declared.reading.Packet.{Packet}
-use Rattle.packets.specs.declared.reading.Reading.{Reading}
-use Rattle.packets.specs.declared.reading.Reading.TheVariants.{Command}
+use Rattle.packets.specs.declared.reading.Refusal.{Refusal}
+use Rattle.packets.specs.declared.reading.Packet.TheVariants.{Command}
 use Rattle.unit.specs.Given.{Arrived, as_read, Lent}
 use Rattle.unit.specs.Calls.{Outcome, take_packet, take_time_code, take_ticks}
 use Rattle.unit.specs.declared.fate.Fate.{Fate}
@@ -25,18 +26,18 @@ ours = record { packet = take_packet; time_code = take_time_code; ticks = take_t
 
 -- ---- a packet to a unit
 
--- What the packet is, read without a zero in front; so as the command h, RMAP or plug-and-play; and its reply path.
-abbrev pub read_of : TheUnit → Arrived → Packet
+-- What the packet is, read without a zero in front; its reply path; and so as the command with the header h, RMAP or plug-and-play.
+abbrev pub read_of : TheUnit → Arrived → Result Packet Refusal
 read_of u p = read_packet (as_read p).packet u.number
 
-abbrev pub ReadAs : TheUnit → Arrived → Reading → Type 0
-ReadAs u p reading = (read_of u p).reading ≡ reading
-
-abbrev pub IsCommand : TheUnit → Arrived → Header → Type 0
-IsCommand u p h = ReadAs u p (Command h)
+abbrev pub ReadAs : TheUnit → Arrived → Result Packet Refusal → Type 0
+ReadAs u p read = read_of u p ≡ read
 
 abbrev pub path_in : TheUnit → Arrived → Path
-path_in u p = (read_of u p).path
+path_in u p = path_read (read_of u p)
+
+abbrev pub IsCommand : TheUnit → Arrived → Header → Type 0
+IsCommand u p h = ReadAs u p (Ok (Command (record { header = h; path = path_in u p })))
 
 -- ---- histories
 

@@ -1,13 +1,12 @@
 -- A zero in front of plug-and-play packets (document 02, 2; 000, 5.2.3.2c). Elsewhere a statement speaks of the packet as it is read (`as_read`); here is what that is,
 -- and what becomes of the packet as it arrives.
-use Rattle.std.specs.Prelude.{◌≡◌, true, ◌⊎◌, ◌≢◌, List, ◌∷◌, ℕ, ◌≤◌, length, get_or}
+use Rattle.std.specs.Prelude.{◌≡◌, true, ◌⊎◌, ◌≢◌, List, ◌∷◌, ℕ, ◌≤◌, length, get_or, Some}
 use Rattle.unit.specs.Fate.{fate_number, fate_status}
 use Rattle.unit.specs.Act.{with_counters}
 use Rattle.unit.specs.Usable.{usable}
 use Rattle.unit.specs.Given.{Arrived, as_read, Lent}
 use Rattle.unit.specs.Judge.{is_link}
 use Rattle.unit.specs.Calls.{Outcome, take_read}
-use Rattle.unit.specs.declared.fate.Told.TheVariants.{Byte}
 use Rattle.unit.specs.declared.unit.Unit.{Unit as TheUnit}
 use Rattle.demands.specs.Terminal.{Terminal}
 use Rattle.demands.specs.Lists.{Sent, Rmap}
@@ -54,7 +53,7 @@ abbrev pub NoEffect : TheUnit → Lent → Outcome → Type 0
 NoEffect u lent o =
     (o.memory ≡ lent.memory)
     × (o.answer.unit ≡ with_counters u o.answer.unit.counters)
-    × (fate_status o.answer.fate ≢ Byte 0)
+    × (fate_status o.answer.fate ≢ Some 0)
     × (fate_number o.answer.fate ≢ 19)
 
 -- And by its first byte: where that is neither the unit's logical address nor FE, it has no effect. So it is with a zero in front of RMAP, of a time packet or of anything else

@@ -1,4 +1,5 @@
 -- Laws of CCSDS packets: what one has passed, that reading gives back the parts of what was made, and what sending leaves.
+use Rattle.std.specs.Prelude.{Option, Some, None, Result, Ok, Err}
 use mathlib.Core.Path.{◌≡◌, refl, sym, ap, ◌∙◌}
 use mathlib.Core.Bool.{Bool, true, false, cond, ◌&&◌, ◌||◌, false≢true}
 use mathlib.Core.Logic.{◌⊎◌}
@@ -13,11 +14,8 @@ use Rattle.packets.specs.Reading.{is_eop}
 use Rattle.packets.specs.Ccsds.{version_of, length_field, is_space_packet, ccsds_packet_of, application_at, space_packet_in, is_ccsds_packet, read_ccsds, sending, left_by, sent}
 use Rattle.packets.specs.declared.reading.End.{End}
 use Rattle.packets.specs.declared.reading.End.TheVariants.{Eop}
-use Rattle.packets.specs.declared.ccsds.CcsdsReading.{CcsdsReading}
-use Rattle.packets.specs.declared.ccsds.CcsdsReading.TheVariants.{NotTaken, TakenFor}
+use Rattle.packets.specs.declared.ccsds.Unsent.{Unsent}
 use Rattle.packets.specs.declared.ccsds.Unsent.TheVariants.{WrongSpacePacket, OutputTooShort}
-use Rattle.packets.specs.declared.ccsds.Sending.{Sending}
-use Rattle.packets.specs.declared.ccsds.Sending.TheVariants.{Sent, NotSent}
 use Rattle.packets.proofs.TimeLaws.{one_of, is_one_of, ends_well}
 
 -- ---- the space packet
@@ -59,31 +57,31 @@ module _ (p : List ℕ) (end : End) (logical : ℕ) where
   passed_ccsds t =
       rw (is_one_of (get_or p 0 0) logical 0xFE t.address, eq-eqb _ _ t.protocol, eq-eqb _ _ t.reserved, t.eop, t.right)
 
-  abbrev is_taken : CcsdsReading → ℕ
-  is_taken r = elim r [ NotTaken ↦ 0 | TakenFor a ↦ 1 ]
+  abbrev is_taken : Option ℕ → ℕ
+  is_taken r = elim r [ None ↦ 0 | Some a ↦ 1 ]
 
-  abbrev application_in : CcsdsReading → ℕ
-  application_in r = elim r [ NotTaken ↦ application_at p | TakenFor a ↦ a ]
+  abbrev application_in : Option ℕ → ℕ
+  application_in r = elim r [ None ↦ application_at p | Some a ↦ a ]
 
   -- what is taken has passed, for the application whose byte stands in it
-  pub ccsds_taken_passed : (a : ℕ) → read_ccsds p end logical ≡ TakenFor a → CcsdsPassed × (application_at p ≡ a)
+  pub ccsds_taken_passed : (a : ℕ) → read_ccsds p end logical ≡ Some a → CcsdsPassed × (application_at p ≡ a)
   unfolding read_ccsds
   ccsds_taken_passed a = go (is_ccsds_packet p end logical) refl
     where
-      go : (b : Bool) → is_ccsds_packet p end logical ≡ b → cond b (TakenFor (application_at p)) NotTaken ≡ TakenFor a → CcsdsPassed × (application_at p ≡ a)
+      go : (b : Bool) → is_ccsds_packet p end logical ≡ b → cond b (Some (application_at p)) None ≡ Some a → CcsdsPassed × (application_at p ≡ a)
       go true f e = (ccsds_passed f, ap application_in e)
       go false f e = absurd (omega (arith, ap is_taken e))
 
-  pub ccsds_passed_taken : CcsdsPassed → read_ccsds p end logical ≡ TakenFor (application_at p)
+  pub ccsds_passed_taken : CcsdsPassed → read_ccsds p end logical ≡ Some (application_at p)
   unfolding read_ccsds
   ccsds_passed_taken t = rw (passed_ccsds t)
 
   -- and what has not is thrown away
-  pub ccsds_thrown_away : (CcsdsPassed → ⊥) → read_ccsds p end logical ≡ NotTaken
+  pub ccsds_thrown_away : (CcsdsPassed → ⊥) → read_ccsds p end logical ≡ None
   unfolding read_ccsds
   ccsds_thrown_away none = go (is_ccsds_packet p end logical) refl
     where
-      go : (b : Bool) → is_ccsds_packet p end logical ≡ b → cond b (TakenFor (application_at p)) NotTaken ≡ NotTaken
+      go : (b : Bool) → is_ccsds_packet p end logical ≡ b → cond b (Some (application_at p)) None ≡ None
       go true f = absurd (none (ccsds_passed f))
       go false f = refl
 
@@ -102,7 +100,7 @@ four_first (a ∷ b ∷ c ∷ d ∷ s) h = refl
 
 -- what is made of a right space packet, to the unit or to FE, is read as one for that application
 pub ccsds_read : (address application logical : ℕ) (space : List ℕ) → (address ≡ logical) ⊎ (address ≡ 0xFE) → is_space_packet space ≡ true
-    → read_ccsds (ccsds_packet_of address application space) Eop logical ≡ TakenFor application
+    → read_ccsds (ccsds_packet_of address application space) Eop logical ≡ Some application
 ccsds_read address application logical space to right =
     ccsds_passed_taken (ccsds_packet_of address application space) Eop logical (record {
       address = to;
@@ -118,7 +116,7 @@ unfolding space_packet_in
 ccsds_carries address application space = refl
 
 -- what is taken is what is made of its parts
-pub ccsds_taken_made : (p : List ℕ) (end : End) (logical a : ℕ) → read_ccsds p end logical ≡ TakenFor a → p ≡ ccsds_packet_of (get_or p 0 0) a (space_packet_in p)
+pub ccsds_taken_made : (p : List ℕ) (end : End) (logical a : ℕ) → read_ccsds p end logical ≡ Some a → p ≡ ccsds_packet_of (get_or p 0 0) a (space_packet_in p)
 unfolding space_packet_in
 ccsds_taken_made p end logical a e =
     let t = ccsds_taken_passed p end logical a e in
@@ -128,16 +126,16 @@ ccsds_taken_made p end logical a e =
 -- ---- sending
 
 module _ (s : List ℕ) (room : ℕ) where
-  pub sending_wrong : is_space_packet s ≡ false → sending s room ≡ NotSent WrongSpacePacket
+  pub sending_wrong : is_space_packet s ≡ false → sending s room ≡ Err WrongSpacePacket
   unfolding sending
   sending_wrong w = rw w
 
   module _ (right : is_space_packet s ≡ true) where
-    pub sending_short : room < 4 + length s → sending s room ≡ NotSent OutputTooShort
+    pub sending_short : room < 4 + length s → sending s room ≡ Err OutputTooShort
     unfolding sending
     sending_short h = rw (right, lt-ltb _ _ h)
 
-    pub sending_all : 4 + length s ≤ room → sending s room ≡ Sent (4 + length s)
+    pub sending_all : 4 + length s ≤ room → sending s room ≡ Ok (4 + length s)
     unfolding sending
     sending_all h = rw (right, le-ltb _ _ h)
 
@@ -145,7 +143,7 @@ module _ (address application : ℕ) (space out : List ℕ) where
   abbrev packet : List ℕ
   packet = ccsds_packet_of address application space
 
-  pub sent_by : (how : Sending) → sending space (length out) ≡ how → sent address application space out ≡ left_by how packet out
+  pub sent_by : (how : Result ℕ Unsent) → sending space (length out) ≡ how → sent address application space out ≡ left_by how packet out
   unfolding sent
   sent_by how e = rw e
 
@@ -153,4 +151,4 @@ module _ (address application : ℕ) (space out : List ℕ) where
   pub sent_first : is_space_packet space ≡ true → 4 + length space ≤ length out → take (4 + length space) (sent address application space out) ≡ packet
   sent_first right fits =
       let size : 4 + length space ≡ length packet = omega arith in
-      rw (sent_by (Sent (4 + length space)) (sending_all space (length out) right fits), size) (part_placed 0 packet out (omega (arith, fits)))
+      rw (sent_by (Ok (4 + length space)) (sending_all space (length out) right fits), size) (part_placed 0 packet out (omega (arith, fits)))

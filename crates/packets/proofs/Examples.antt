@@ -1,5 +1,7 @@
 -- Worked examples, computed by the definitions: a definition that no longer says what they say is refused here. Those of the papers
 -- name their place; the others were worked out by hand.
+use Rattle.packets.specs.declared.time.Time.{Time as TheTime}
+use Rattle.std.specs.Prelude.{Option, Some, None, Ok, Err}
 use mathlib.Core.Path.{◌≡◌, refl}
 use mathlib.Core.Bool.{Bool, true, false, cond}
 use mathlib.Core.List.{List, [], ◌∷◌, ◌++◌, map}
@@ -11,19 +13,17 @@ use Rattle.octets.proofs.Tabulate.{tabulate}
 use Rattle.packets.specs.Instruction.{kind_of, code_of, type_of, is_write, is_verified, wants_reply, is_incrementing, r_of, is_unused, is_read, is_rmw}
 use Rattle.packets.specs.Instruction.{reply_address_size, header_size, reply_form}
 use Rattle.packets.specs.Path.{without_leading_zeros, or_one_zero, path_of, kept}
-use Rattle.packets.specs.Reading.{number_of, bare, refused, time_packet, read_command, read_protocol, read_packet}
+use Rattle.packets.specs.Reading.{number_of, bare, read_command, read_protocol, read_packet}
 use Rattle.packets.specs.Reply.{reply_with, reply_of, reply_length, reply_fits, replied}
 use Rattle.packets.specs.Time.{time_number_of, when_number, read_time}
 use Rattle.packets.specs.declared.instruction.Instruction.{Instruction}
 use Rattle.packets.specs.declared.instruction.Kind.{Kind}
 use Rattle.packets.specs.declared.instruction.Kind.TheVariants.{Unused, Read, ReadModifyWrite, Write}
 use Rattle.packets.specs.declared.header.Header.{Header}
-use Rattle.packets.specs.declared.reading.Reading.TheVariants.{Command}
+use Rattle.packets.specs.declared.reading.Packet.TheVariants.{Time, Command}
 use Rattle.packets.specs.declared.reading.Refusal.TheVariants.{Incomplete, UnknownProtocol, ExtendedProtocol, Reply, HeaderCrc}
 use Rattle.packets.specs.declared.reading.End.TheVariants.{Eop, Eep}
 use Rattle.packets.specs.declared.time.When.TheVariants.{AtWrap, AtOnce}
-use Rattle.packets.specs.declared.time.TimeReading.{TimeReading}
-use Rattle.packets.specs.declared.time.TimeReading.TheVariants.{ThrownAway, Taken}
 
 -- ---- document 01, 'Cases by hand': 7C a verified write, 4C a read, 5C an RMW, all incrementing with a reply
 
@@ -104,7 +104,7 @@ told_apart = refl
 numbers : map number_of (Incomplete ∷ UnknownProtocol ∷ ExtendedProtocol ∷ Reply ∷ HeaderCrc ∷ []) ≡ 11 ∷ 12 ∷ 13 ∷ 14 ∷ 15 ∷ []
 numbers = refl
 
-time_numbers : map time_number_of (ThrownAway ∷ Taken (record { epoch = 0x9F; when = AtOnce; value = 0 }) ∷ []) ≡ 16 ∷ 19 ∷ []
+time_numbers : map time_number_of (None ∷ Some (record { epoch = 0x9F; when = AtOnce; value = 0 }) ∷ []) ≡ 16 ∷ 19 ∷ []
 time_numbers = refl
 
 -- ---- document 01, 'Time': the last bit of byte 3 is 0 at the wrap, 1 at once
@@ -137,7 +137,7 @@ annex_more =
 
 -- without a reply address
 annex_write : read_packet (0xFE ∷ 0x01 ∷ 0x6C ∷ 0x00 ∷ 0x67 ∷ 0x00 ∷ 0x00 ∷ 0x00 ∷ 0xA0 ∷ 0x00 ∷ 0x00 ∷ 0x00 ∷ 0x00 ∷ 0x00 ∷ 0x10 ∷ 0x9F ∷ (annex_data ++ (0x56 ∷ []))) 0xF0
-    ≡ record { reading = Command (annex_header 0x6C 0 0xA0000000); path = kept ([]) }
+    ≡ Ok (Command (record { header = annex_header 0x6C 0 0xA0000000; path = kept ([]) }))
 unfolding read_packet read_protocol read_command path_of crc mirrored bits remainder message modulo
 annex_write = refl
 
@@ -147,7 +147,7 @@ unfolding reply_with path_of crc mirrored bits remainder message modulo
 annex_write_reply = refl
 
 annex_read : read_packet (0xFE ∷ 0x01 ∷ 0x4C ∷ 0x00 ∷ 0x67 ∷ 0x00 ∷ 0x01 ∷ 0x00 ∷ 0xA0 ∷ 0x00 ∷ 0x00 ∷ 0x00 ∷ 0x00 ∷ 0x00 ∷ 0x10 ∷ 0xC9 ∷ []) 0xF0
-    ≡ record { reading = Command (annex_header 0x4C 1 0xA0000000); path = kept ([]) }
+    ≡ Ok (Command (record { header = annex_header 0x4C 1 0xA0000000; path = kept ([]) }))
 unfolding read_packet read_protocol read_command path_of crc mirrored bits remainder message modulo
 annex_read = refl
 
@@ -158,7 +158,7 @@ annex_read_reply = refl
 
 -- with a reply address: the path goes before the reply, and no CRC covers it
 annex_write_by_path : read_packet (0xFE ∷ 0x01 ∷ 0x6E ∷ 0x00 ∷ 0x00 ∷ 0x99 ∷ 0xAA ∷ 0xBB ∷ 0xCC ∷ 0xDD ∷ 0xEE ∷ 0x00 ∷ 0x67 ∷ 0x00 ∷ 0x02 ∷ 0x00 ∷ 0xA0 ∷ 0x00 ∷ 0x00 ∷ 0x10 ∷ 0x00 ∷ 0x00 ∷ 0x10 ∷ 0x7F ∷ (annex_more ++ (0xB4 ∷ []))) 0xF0
-    ≡ record { reading = Command (annex_header 0x6E 2 0xA0000010); path = kept (0x00 ∷ 0x99 ∷ 0xAA ∷ 0xBB ∷ 0xCC ∷ 0xDD ∷ 0xEE ∷ 0x00 ∷ []) }
+    ≡ Ok (Command (record { header = annex_header 0x6E 2 0xA0000010; path = kept (0x00 ∷ 0x99 ∷ 0xAA ∷ 0xBB ∷ 0xCC ∷ 0xDD ∷ 0xEE ∷ 0x00 ∷ []) }))
 unfolding read_packet read_protocol read_command path_of without_leading_zeros or_one_zero crc mirrored bits remainder message modulo
 annex_write_by_path = refl
 
@@ -168,7 +168,7 @@ unfolding reply_with path_of without_leading_zeros or_one_zero crc mirrored bits
 annex_write_by_path_reply = refl
 
 annex_read_by_path : read_packet (0xFE ∷ 0x01 ∷ 0x4D ∷ 0x00 ∷ 0x99 ∷ 0xAA ∷ 0xBB ∷ 0xCC ∷ 0x67 ∷ 0x00 ∷ 0x03 ∷ 0x00 ∷ 0xA0 ∷ 0x00 ∷ 0x00 ∷ 0x10 ∷ 0x00 ∷ 0x00 ∷ 0x10 ∷ 0xF7 ∷ []) 0xF0
-    ≡ record { reading = Command (annex_header 0x4D 3 0xA0000010); path = kept (0x99 ∷ 0xAA ∷ 0xBB ∷ 0xCC ∷ []) }
+    ≡ Ok (Command (record { header = annex_header 0x4D 3 0xA0000010; path = kept (0x99 ∷ 0xAA ∷ 0xBB ∷ 0xCC ∷ []) }))
 unfolding read_packet read_protocol read_command path_of without_leading_zeros or_one_zero crc mirrored bits remainder message modulo
 annex_read_by_path = refl
 
@@ -200,7 +200,7 @@ apart instruction = record {
 
 -- every byte goes to its part
 read_apart : read_packet (0x43 ∷ 0x03 ∷ 0x4D ∷ 0x2A ∷ 0x00 ∷ 0x07 ∷ 0x00 ∷ 0x08 ∷ 0x67 ∷ 0xFE ∷ 0xDC ∷ 0x01 ∷ 0xA1 ∷ 0xB2 ∷ 0xC3 ∷ 0xD4 ∷ 0x12 ∷ 0x34 ∷ 0x56 ∷ 0x6A ∷ []) 0xF0
-    ≡ record { reading = Command (apart 0x4D); path = record { bytes = replicate 9 0 ++ (0x07 ∷ 0x00 ∷ 0x08 ∷ []); count = 3 } }
+    ≡ Ok (Command (record { header = apart 0x4D; path = record { bytes = replicate 9 0 ++ (0x07 ∷ 0x00 ∷ 0x08 ∷ []); count = 3 } }))
 unfolding read_packet read_protocol read_command path_of without_leading_zeros or_one_zero crc mirrored bits remainder message modulo
 read_apart = refl
 
@@ -322,33 +322,33 @@ readings :
     ∷ (0xFE ∷ 0x01 ∷ 0x4C ∷ 0x00 ∷ 0x67 ∷ 0x00 ∷ 0x01 ∷ 0x00 ∷ 0xA0 ∷ 0x00 ∷ 0x00 ∷ 0x00 ∷ 0x00 ∷ 0x00 ∷ 0x10 ∷ 0xC8 ∷ [])
     ∷ []
     )
-    ≡ refused Incomplete
-    ∷ refused ExtendedProtocol
-    ∷ refused UnknownProtocol
-    ∷ time_packet
-    ∷ refused UnknownProtocol
-    ∷ refused Incomplete
-    ∷ refused Reply
-    ∷ refused Incomplete
-    ∷ refused HeaderCrc
+    ≡ Err Incomplete
+    ∷ Err ExtendedProtocol
+    ∷ Err UnknownProtocol
+    ∷ Ok Time
+    ∷ Err UnknownProtocol
+    ∷ Err Incomplete
+    ∷ Err Reply
+    ∷ Err Incomplete
+    ∷ Err HeaderCrc
     ∷ []
 unfolding read_packet read_protocol read_command path_of crc mirrored bits remainder message modulo
 readings = refl
 
 -- one byte is incomplete, whatever it is
-one_byte : map (λ (b : ℕ). read_packet (b ∷ []) 0xF0) (0x00 ∷ 0x01 ∷ 0xF0 ∷ 0xFE ∷ []) ≡ replicate 4 (refused Incomplete)
+one_byte : map (λ (b : ℕ). read_packet (b ∷ []) 0xF0) (0x00 ∷ 0x01 ∷ 0xF0 ∷ 0xFE ∷ []) ≡ replicate 4 (Err Incomplete)
 unfolding read_packet read_protocol read_command path_of
 one_byte = refl
 
 -- time numbers are those from F0 to FE; what is none is no time packet, though it were the unit's time number
 time_protocols : map (λ (n : ℕ). read_packet (0xFE ∷ n ∷ []) n) (0xEF ∷ 0xF0 ∷ 0xF1 ∷ 0xFD ∷ 0xFE ∷ 0xFF ∷ [])
-    ≡ refused UnknownProtocol ∷ time_packet ∷ time_packet ∷ time_packet ∷ time_packet ∷ refused UnknownProtocol ∷ []
+    ≡ Err UnknownProtocol ∷ Ok Time ∷ Ok Time ∷ Ok Time ∷ Ok Time ∷ Err UnknownProtocol ∷ []
 unfolding read_packet read_protocol read_command path_of
 time_protocols = refl
 
 -- second bytes where the time number is FD: the neighbours of 01 and 03, and of FD
 other_protocols : map (λ (b : ℕ). read_packet (0xFE ∷ b ∷ []) 0xFD) (0x02 ∷ 0x04 ∷ 0xEF ∷ 0xF0 ∷ 0xFC ∷ 0xFD ∷ 0xFE ∷ 0xFF ∷ [])
-    ≡ replicate 5 (refused UnknownProtocol) ++ (time_packet ∷ replicate 2 (refused UnknownProtocol))
+    ≡ replicate 5 (Err UnknownProtocol) ++ (Ok Time ∷ replicate 2 (Err UnknownProtocol))
 unfolding read_packet read_protocol read_command path_of
 other_protocols = refl
 
@@ -361,10 +361,10 @@ readings_in_order :
     ∷ (0xFE ∷ 0x01 ∷ 0xCC ∷ 0x00 ∷ 0x67 ∷ 0x00 ∷ 0x01 ∷ 0x00 ∷ 0xA0 ∷ 0x00 ∷ 0x00 ∷ 0x00 ∷ 0x00 ∷ 0x00 ∷ 0x10 ∷ 0xE0 ∷ [])
     ∷ []
     )
-    ≡ refused Reply
-    ∷ refused Incomplete
-    ∷ record { reading = Command (annex_header 0x8C 1 0xA0000000); path = kept [] }
-    ∷ record { reading = Command (annex_header 0xCC 1 0xA0000000); path = kept [] }
+    ≡ Err Reply
+    ∷ Err Incomplete
+    ∷ Ok (Command (record { header = annex_header 0x8C 1 0xA0000000; path = kept [] }))
+    ∷ Ok (Command (record { header = annex_header 0xCC 1 0xA0000000; path = kept [] }))
     ∷ []
 unfolding read_packet read_protocol read_command path_of crc mirrored bits remainder message modulo
 readings_in_order = refl
@@ -372,16 +372,16 @@ readings_in_order = refl
 -- ---- time packets: one at once, one that waits, and the first ended by EEP (their CRCs were worked out by polynomial division, apart)
 
 time_at_once : read_time (0xFE ∷ 0xF0 ∷ 0x9F ∷ 0x01 ∷ 0x00 ∷ 0x00 ∷ 0x00 ∷ 0x05 ∷ 0x80 ∷ 0x00 ∷ 0x00 ∷ 0xB0 ∷ []) Eop 0x43 0xF0
-    ≡ Taken (record { epoch = 0x9F; when = AtOnce; value = 0x00000005800000 })
+    ≡ Some (record { epoch = 0x9F; when = AtOnce; value = 0x00000005800000 })
 unfolding read_time crc mirrored bits remainder message modulo
 time_at_once = refl
 
 time_at_wrap : read_time (0x43 ∷ 0xF0 ∷ 0xAF ∷ 0x00 ∷ 0x01 ∷ 0x02 ∷ 0x03 ∷ 0x04 ∷ 0x05 ∷ 0x06 ∷ 0x07 ∷ 0x4A ∷ []) Eop 0x43 0xF0
-    ≡ Taken (record { epoch = 0xAF; when = AtWrap; value = 0x01020304050607 })
+    ≡ Some (record { epoch = 0xAF; when = AtWrap; value = 0x01020304050607 })
 unfolding read_time crc mirrored bits remainder message modulo
 time_at_wrap = refl
 
-time_eep : read_time (0xFE ∷ 0xF0 ∷ 0x9F ∷ 0x01 ∷ 0x00 ∷ 0x00 ∷ 0x00 ∷ 0x05 ∷ 0x80 ∷ 0x00 ∷ 0x00 ∷ 0xB0 ∷ []) Eep 0x43 0xF0 ≡ ThrownAway
+time_eep : read_time (0xFE ∷ 0xF0 ∷ 0x9F ∷ 0x01 ∷ 0x00 ∷ 0x00 ∷ 0x00 ∷ 0x05 ∷ 0x80 ∷ 0x00 ∷ 0x00 ∷ 0xB0 ∷ []) Eep 0x43 0xF0 ≡ None
 unfolding read_time crc mirrored bits remainder message modulo
 time_eep = refl
 
@@ -412,7 +412,7 @@ time_thrown_away :
     ∷ (0xFE ∷ 0xF0 ∷ 0x9F ∷ 0x01 ∷ 0x00 ∷ 0x00 ∷ 0x00 ∷ 0x05 ∷ 0x80 ∷ 0x00 ∷ 0x00 ∷ 0x30 ∷ [])
     ∷ []
     )
-    ≡ replicate 16 ThrownAway
+    ≡ replicate 16 None
 unfolding read_time crc mirrored bits remainder message modulo
 time_thrown_away = refl
 
@@ -423,8 +423,8 @@ time_taken :
     ∷ (0x43 ∷ 0xF1 ∷ 0xAF ∷ 0x01 ∷ 0x00 ∷ 0x00 ∷ 0x00 ∷ 0x05 ∷ 0x80 ∷ 0x00 ∷ 0x00 ∷ 0xD1 ∷ [])
     ∷ []
     )
-    ≡ Taken (record { epoch = 0x9F; when = AtWrap; value = 0x00000005800000 })
-    ∷ Taken (record { epoch = 0xAF; when = AtOnce; value = 0x00000005800000 })
+    ≡ Some (record { epoch = 0x9F; when = AtWrap; value = 0x00000005800000 })
+    ∷ Some (record { epoch = 0xAF; when = AtOnce; value = 0x00000005800000 })
     ∷ []
 unfolding read_time crc mirrored bits remainder message modulo
 time_taken = refl
@@ -452,18 +452,18 @@ preamble_taken :
     ∷ (0xFE ∷ 0xF0 ∷ 0x9F ∷ 0x1D ∷ 0x00 ∷ 0x00 ∷ 0x00 ∷ 0x05 ∷ 0x80 ∷ 0x00 ∷ 0x00 ∷ 0xFF ∷ 0xFF ∷ 0xFF ∷ 0xFF ∷ 0xFF ∷ 0xFF ∷ 0xFF ∷ 0x3A ∷ [])
     ∷ []
     )
-    ≡ Taken (record { epoch = 0x9F; when = AtOnce; value = 0x00000005800000 })
-    ∷ Taken (record { epoch = 0xAF; when = AtWrap; value = 0x00000005800000 })
-    ∷ Taken (record { epoch = 0x9F; when = AtWrap; value = 0x00000005800000 })
-    ∷ Taken (record { epoch = 0x9F; when = AtWrap; value = 0x000005800000FF })
-    ∷ Taken (record { epoch = 0x9F; when = AtOnce; value = 0x00000005800000 })
-    ∷ Taken (record { epoch = 0xAF; when = AtOnce; value = 0xFFFFFFFFFFFFFF })
-    ∷ Taken (record { epoch = 0x9F; when = AtWrap; value = 0x01020304050607 })
-    ∷ Taken (record { epoch = 0x9F; when = AtOnce; value = 0x00000005800000 })
-    ∷ Taken (record { epoch = 0x9F; when = AtWrap; value = 0x00000005800000 })
-    ∷ Taken (record { epoch = 0x9F; when = AtOnce; value = 0x00000005800000 })
-    ∷ Taken (record { epoch = 0x9F; when = AtWrap; value = 0x00000005800000 })
-    ∷ Taken (record { epoch = 0x9F; when = AtOnce; value = 0x00000005800000 })
+    ≡ Some (record { epoch = 0x9F; when = AtOnce; value = 0x00000005800000 })
+    ∷ Some (record { epoch = 0xAF; when = AtWrap; value = 0x00000005800000 })
+    ∷ Some (record { epoch = 0x9F; when = AtWrap; value = 0x00000005800000 })
+    ∷ Some (record { epoch = 0x9F; when = AtWrap; value = 0x000005800000FF })
+    ∷ Some (record { epoch = 0x9F; when = AtOnce; value = 0x00000005800000 })
+    ∷ Some (record { epoch = 0xAF; when = AtOnce; value = 0xFFFFFFFFFFFFFF })
+    ∷ Some (record { epoch = 0x9F; when = AtWrap; value = 0x01020304050607 })
+    ∷ Some (record { epoch = 0x9F; when = AtOnce; value = 0x00000005800000 })
+    ∷ Some (record { epoch = 0x9F; when = AtWrap; value = 0x00000005800000 })
+    ∷ Some (record { epoch = 0x9F; when = AtOnce; value = 0x00000005800000 })
+    ∷ Some (record { epoch = 0x9F; when = AtWrap; value = 0x00000005800000 })
+    ∷ Some (record { epoch = 0x9F; when = AtOnce; value = 0x00000005800000 })
     ∷ []
 unfolding read_time crc mirrored bits remainder message modulo
 preamble_taken = refl
@@ -498,12 +498,12 @@ preamble_thrown_away :
     ∷ (0xFE ∷ 0xF0 ∷ 0x9F ∷ 0x05 ∷ 0x00 ∷ 0x00 ∷ 0x00 ∷ 0x05 ∷ 0x80 ∷ 0x00 ∷ 0x00 ∷ 0xFE ∷ 0xBB ∷ [])
     ∷ []
     )
-    ≡ replicate 18 ThrownAway
+    ≡ replicate 18 None
 unfolding read_time crc mirrored bits remainder message modulo
 preamble_thrown_away = refl
 
 -- and EEP
-preamble_eep : read_time (0xFE ∷ 0xF0 ∷ 0x9F ∷ 0x05 ∷ 0x00 ∷ 0x00 ∷ 0x00 ∷ 0x05 ∷ 0x80 ∷ 0x00 ∷ 0x00 ∷ 0xFF ∷ 0xBB ∷ []) Eep 0x43 0xF0 ≡ ThrownAway
+preamble_eep : read_time (0xFE ∷ 0xF0 ∷ 0x9F ∷ 0x05 ∷ 0x00 ∷ 0x00 ∷ 0x00 ∷ 0x05 ∷ 0x80 ∷ 0x00 ∷ 0x00 ∷ 0xFF ∷ 0xBB ∷ []) Eep 0x43 0xF0 ≡ None
 unfolding read_time crc mirrored bits remainder message modulo
 preamble_eep = refl
 
@@ -518,10 +518,10 @@ octet_sent o =
     with_crc ((0xFE ∷ 0xF0 ∷ epoch_sent o ∷ o ∷ []) ++ replicate (o / 32 % 4) 0x00 ++ (0x01 ∷ 0x02 ∷ 0x03 ∷ 0x04 ∷ 0x05 ∷ 0x06 ∷ 0x07 ∷ []) ++ replicate (o / 4 % 8) 0xFF)
 
 -- it is taken exactly if 02 is not in it, and at once exactly if it is odd
-abbrev octet_told : ℕ → TimeReading
+abbrev octet_told : ℕ → Option TheTime
 octet_told o =
     cond (eqb (o / 2 % 2) 0)
-    (Taken (record { epoch = epoch_sent o; when = cond (eqb (o % 2) 1) AtOnce AtWrap; value = 0x01020304050607 })) ThrownAway
+    (Some (record { epoch = epoch_sent o; when = cond (eqb (o % 2) 1) AtOnce AtWrap; value = 0x01020304050607 })) None
 
 octets_told : tabulate 0 128 (λ o. read_time (octet_sent o) Eop 0x43 0xF0) ≡ tabulate 0 128 octet_told
 unfolding read_time crc mirrored bits remainder message modulo

@@ -17,7 +17,9 @@ use Rattle.packets.specs.Path.{kept}
 use Rattle.packets.specs.Header.{front_of, rear_of, header_of, parts_at}
 use Rattle.packets.specs.Reading.{command, read_command, read_packet}
 use Rattle.packets.specs.declared.header.Header.{Header}
-use Rattle.packets.specs.declared.reading.Reading.TheVariants.{Command}
+use Rattle.packets.specs.declared.reading.Command.{Command as TheCommand}
+use Rattle.packets.specs.declared.reading.Packet.TheVariants.{Command}
+use Rattle.std.specs.Prelude.{Ok}
 use Rattle.packets.proofs.ReadingLaws.{read_whole, protocol_command, packet_protocol}
 
 -- ---- the numbers of a header, byte by byte from their places
@@ -60,7 +62,7 @@ module _ (h : Header) (a : List ℕ) (s : Sized h a) where
         number_bytes 3 h.length s.size,
       )
 
-  command_back : (y : List ℕ) → command (front_of h ++ a ++ (rear_of h ++ y)) ≡ record { reading = Command h; path = kept a }
+  command_back : (y : List ℕ) → command (front_of h ++ a ++ (rear_of h ++ y)) ≡ record { header = h; path = kept a }
   command_back y = rw (parts_back y, take_at a (rear_of h ++ y) (reply_address_size h.instruction) s.reply)
 
   length_header : length (header_of h a) ≡ header_size h.instruction
@@ -69,7 +71,7 @@ module _ (h : Header) (a : List ℕ) (s : Sized h a) where
 
   -- a command made of parts is read with the same parts, and with the path of its reply address, whatever follows its header
   pub header_read : (type_of h.instruction ≡ 0 → ⊥) → (y : List ℕ)
-      → read_command (header_of h a ++ y) ≡ record { reading = Command h; path = kept a }
+      → read_command (header_of h a ++ y) ≡ Ok (Command (record { header = h; path = kept a }))
   unfolding header_of
   header_read is-command y =
       let b = front_of h ++ a ++ rear_of h in
@@ -80,11 +82,11 @@ module _ (h : Header) (a : List ℕ) (s : Sized h a) where
       let tail = crc b ∷ y in
       let shape : p ≡ front_of h ++ a ++ (rear_of h ++ tail) =
       append_assoc b (crc b ∷ []) y ∙ append_assoc (front_of h ++ a) (rear_of h) tail in
-      sym (read_whole p (omega arith) is-command whole sum) ∙ ap command shape ∙ command_back tail
+      sym (read_whole p (omega arith) is-command whole sum) ∙ ap (λ (c : TheCommand). Ok (Command c)) (ap command shape ∙ command_back tail)
 
   -- and so is a packet that begins with it, whatever the time number
   pub packet_read : (type_of h.instruction ≡ 0 → ⊥) → (h.protocol ≡ 0x01) ⊎ (h.protocol ≡ 0x03) → (y : List ℕ) (n : ℕ)
-      → read_packet (header_of h a ++ y) n ≡ record { reading = Command h; path = kept a }
+      → read_packet (header_of h a ++ y) n ≡ Ok (Command (record { header = h; path = kept a }))
   unfolding header_of
   packet_read is-command protocol y n =
       let p = header_of h a ++ y in

@@ -1,14 +1,18 @@
 -- Laws of paths: what becomes of a reply address, that its twelve bytes and its count keep its path, and when two kept paths are one.
 use mathlib.Core.Path.{◌≡◌, refl, sym, ap, ◌∙◌}
-use mathlib.Core.Bool.{true, false, false≢true}
+use mathlib.Core.Bool.{Bool, true, false, not, ◌&&◌, false≢true}
 use mathlib.Core.List.{List, [], ◌∷◌, ◌++◌, map, append-nil}
-use Prim.Native.Nat.{ℕ, zero, suc, ◌+◌, ◌-◌, ◌<◌, ◌≤◌}
+use Prim.Native.Nat.{ℕ, zero, suc, ◌+◌, ◌-◌, ◌≤◌}
 use native.Mathlib.Omega.{arith}
-use native.Mathlib.Numerals.{add-one}
-use borrow.Author.Tests.{le-leb, eq-eqb, ne_eqb, eqb-true}
+use borrow.Author.Tests.{le-leb, eq-eqb, eqb-true, ne_eqb}
 use lib.Dec.{eqb}
-use lib.ListN.{length, get_or, take, drop, replicate, length-replicate, replicate-append-replicate, length-drop, drop_of_length-le}
-use lib.Seq.{drop-cons, drop_at, take_at, take-length}
+use lib.Pointwise.{pointwise}
+use lib.ListN.{length, take, drop, replicate, length-replicate, replicate-append-replicate, length-drop}
+use lib.Seq.{drop_at, take_at, take-length}
+use Rattle.std.specs.Prelude.{position, Some, None, max, min}
+use Rattle.std.specs.List.{position_or_len}
+use Rattle.std.proofs.lemmas.Grind.{common_steps}
+use Rattle.std.proofs.lemmas.List.Quantifiers.{position-Some}
 use Rattle.octets.specs.Places.{part, copied}
 use Rattle.octets.proofs.PlaceLaws.{first_true, second_true}
 use Rattle.packets.specs.declared.path.Path.{Path}
@@ -62,26 +66,36 @@ unfolding path_of without_leading_zeros or_one_zero
 other_stays zero a h = absurd (h refl)
 other_stays (suc b) a h = refl
 
--- the same of what is left of an address from a place on, as a loop over the places has it
-module _ (a : List ℕ) (i : ℕ) where
-  pub path_goes_on : 1 < length a - i → get_or a i 0 ≡ 0 → path_of (drop i a) ≡ path_of (drop (i + 1) a)
-  path_goes_on h z =
-      let f : i < length a = omega arith in
-      let g : suc i < length a = omega arith in
-      rw (add-one, drop-cons a i 0 f, drop-cons a (suc i) 0 g) (zero_goes (get_or a i 0) (get_or a (suc i) 0) (drop (suc (suc i)) a) z)
+-- so by the place of the first byte that is not zero
+abbrev pub counts : ℕ → Bool
+counts b = not (eqb b 0)
 
-  pub path_here : i < length a → (get_or a i 0 ≡ 0 → ⊥) → length (path_of (drop i a)) ≡ length a - i
-  path_here f h =
-      let e = drop-cons a i 0 f in
-      ap (λ (l : List ℕ). length (path_of l)) e ∙ ap length (other_stays (get_or a i 0) (drop (suc i) a) h ∙ sym e) ∙ length-drop i a
+leading : (a : List ℕ) → length (without_leading_zeros a) ≡ length a - position_or_len counts a
+unfolding without_leading_zeros
+leading [] = refl
+leading (zero ∷ a) = leading a ∙ omega arith
+leading (suc b ∷ a) = rw (ne_eqb (suc b) 0 (λ z. omega (arith, z))) (omega arith)
 
-  pub path_last : length a - i ≤ 1 → length (path_of (drop i a)) ≡ length a - i
-  path_last h = short (drop i a) (simp length-drop h) ∙ length-drop i a
-    where
-      short : (l : List ℕ) → length l ≤ 1 → length (path_of l) ≡ length l
-      short [] k = ap length path_none
-      short (b ∷ []) k = ap length (one_stays b)
-      short (b ∷ c ∷ l) k = absurd (omega arith)
+one_at_least : (a : List ℕ) → length (or_one_zero a) ≡ max (length a) 1
+unfolding or_one_zero
+one_at_least [] = refl
+one_at_least (b ∷ a) = omega arith
+
+path_size : (b : ℕ) (a : List ℕ) → length (path_of (b ∷ a)) ≡ max (length (b ∷ a) - position_or_len counts (b ∷ a)) 1
+unfolding path_of
+path_size b a = one_at_least (without_leading_zeros (b ∷ a)) ∙ ap (λ (n : ℕ). max n 1) (leading (b ∷ a))
+
+pub path_from : (a : List ℕ) (i : ℕ) → position counts a ≡ Some i → length a - i ≡ length (path_of a)
+path_from [] i e = absurd (omega (arith, (position-Some counts [] i 0 e).0))
+path_from (b ∷ a) i e =
+    let at : position_or_len counts (b ∷ a) ≡ i = grind (arith, common_steps) in
+    omega (arith, at, path_size b a, (position-Some counts (b ∷ a) i 0 e).0)
+
+pub path_zeros : (a : List ℕ) → position counts a ≡ None → min (length a) 1 ≡ length (path_of a)
+path_zeros [] e = sym (ap length path_none)
+path_zeros (b ∷ a) e =
+    let none : length (b ∷ a) ≤ position_or_len counts (b ∷ a) = grind (arith, common_steps) in
+    omega (arith, none, path_size b a)
 
 -- ---- kept: twelve bytes with the zeros first, and the count
 
@@ -152,16 +166,6 @@ path_part k n twelve e =
 
 -- ---- two kept paths
 
-module _ (a b : List ℕ) (i : ℕ) (f : i < length a) (g : i < length b) where
-  pub same_goes_on : get_or a i 0 ≡ get_or b i 0 → same_bytes (drop i a) (drop i b) ≡ same_bytes (drop (i + 1) a) (drop (i + 1) b)
-  same_goes_on e = rw (add-one, drop-cons a i 0 f, drop-cons b i 0 g, eq-eqb _ _ e)
-
-  pub same_differs : (get_or a i 0 ≡ get_or b i 0 → ⊥) → same_bytes (drop i a) (drop i b) ≡ false
-  same_differs e = rw (drop-cons a i 0 f, drop-cons b i 0 g, ne_eqb _ _ e)
-
-pub same_ends : (a b : List ℕ) (i : ℕ) → length a ≤ i → length b ≤ i → same_bytes (drop i a) (drop i b) ≡ true
-same_ends a b i f g = rw (drop_of_length-le a f, drop_of_length-le b g)
-
 same_bytes_law : (a b : List ℕ) → same_bytes a b ≡ true → a ≡ b
 same_bytes_law [] [] h = refl
 same_bytes_law [] (y ∷ b) h = absurd (false≢true h)
@@ -177,6 +181,17 @@ abbrev as_path : List ℕ → ℕ → Path
 as_path b n = record { bytes = b; count = n }
 
 -- the test says yes exactly if the two are one
+-- what `==` compares of two paths is what the definition compares
+pointwise_same : (a b : List ℕ) → pointwise eqb a b ≡ same_bytes a b
+pointwise_same [] [] = refl
+pointwise_same [] (y ∷ b) = refl
+pointwise_same (x ∷ a) [] = refl
+pointwise_same (x ∷ a) (y ∷ b) = ap (λ (t : Bool). eqb x y && t) (pointwise_same a b)
+
+pub equal_paths : (k l : Path) → (pointwise eqb k.bytes l.bytes && eqb k.count l.count) ≡ same_path k l
+unfolding same_path
+equal_paths k l = ap (λ (t : Bool). t && eqb k.count l.count) (pointwise_same k.bytes l.bytes)
+
 pub same_path_law : (k l : Path) → same_path k l ≡ true → k ≡ l
 unfolding same_path
 same_path_law k l h =

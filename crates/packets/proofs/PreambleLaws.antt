@@ -1,4 +1,5 @@
 -- Laws of time packets with added octets: the bytes from the parts and back, and the time that was sent.
+use Rattle.std.specs.Prelude.{Some}
 use mathlib.Core.Path.{◌≡◌, refl, sym, ap, ap₂, ◌∙◌}
 use mathlib.Core.Logic.{◌⊎◌}
 use mathlib.Core.List.{List, [], ◌∷◌, ◌++◌, append_assoc}
@@ -20,7 +21,6 @@ use Rattle.packets.specs.declared.reading.End.TheVariants.{Eop}
 use Rattle.packets.specs.declared.time.Time.{Time as TheTime}
 use Rattle.packets.specs.declared.time.When.{When}
 use Rattle.packets.specs.declared.time.When.TheVariants.{AtWrap, AtOnce}
-use Rattle.packets.specs.declared.time.TimeReading.TheVariants.{Taken}
 use Rattle.packets.proofs.TimeLaws.{Passed, passed_time, when_back, when_told}
 
 -- ---- the second octet: its five fields are all of its bits, each once
@@ -101,7 +101,7 @@ module _ (address n : ℕ) (t : TheTime) (zeros : ℕ) (cut : List ℕ) (few : z
         let bit : preamble_bits 7 7 (time_packet_of address n t zeros cut) ≡ when_number t.when = omega (arith, when_small t.when) in
         ap when_of bit ∙ when_back t.when
 
-    pub time_read : t.value < 256 ^ 7 → read_time (time_packet_of address n t zeros cut) Eop logical n ≡ Taken t
+    pub time_read : t.value < 256 ^ 7 → read_time (time_packet_of address n t zeros cut) Eop logical n ≡ Some t
     unfolding read_time time_packet_of
     time_read small =
         rw (passed_time (time_packet_of address n t zeros cut) Eop logical n passed_made, when_made, seconds_back, value_there, number_bytes 7 t.value small)

@@ -17,13 +17,14 @@ use Rattle.octets.proofs.NumberLaws.{number_below}
 use Rattle.packets.specs.Instruction.{type_of, reply_address_size, header_size}
 use Rattle.packets.specs.Header.{instruction_at, parts_at}
 use Rattle.packets.specs.Path.{path_of}
-use Rattle.packets.specs.Reading.{bare, refused, time_packet, command, read_command, read_protocol, read_packet}
+use Rattle.std.specs.Prelude.{Result, Ok, Err}
+use Rattle.packets.specs.Reading.{bare, command, read_command, read_protocol, read_packet, path_read}
 use Rattle.packets.specs.declared.instruction.Instruction.{Instruction}
 use Rattle.packets.specs.declared.path.Path.{Path}
 use Rattle.packets.specs.declared.header.Header.{Header}
+use Rattle.packets.specs.declared.reading.Command.{Command as TheCommand}
 use Rattle.packets.specs.declared.reading.Packet.{Packet}
-use Rattle.packets.specs.declared.reading.Reading.{Reading}
-use Rattle.packets.specs.declared.reading.Reading.TheVariants.{Refused, Time, Command}
+use Rattle.packets.specs.declared.reading.Packet.TheVariants.{Time, Command}
 use Rattle.packets.specs.declared.reading.Refusal.{Refusal}
 use Rattle.packets.specs.declared.reading.Refusal.TheVariants.{Incomplete, UnknownProtocol, ExtendedProtocol, Reply, HeaderCrc}
 use Rattle.packets.proofs.PathLaws.{path_short}
@@ -32,33 +33,33 @@ use Rattle.packets.proofs.BareLaws.{bare_zero, bare_other}
 -- ---- the checks of a command, in their order
 
 module _ (p : List ℕ) where
-  pub read_short : length p < 3 → refused Incomplete ≡ read_command p
+  pub read_short : length p < 3 → Err Incomplete ≡ read_command p
   unfolding read_command
   read_short h = simp (lt-ltb _ _ h)
 
   module _ (three : 3 ≤ length p) where
-    pub read_reply : type_of (instruction_at p) ≡ 0 → refused Reply ≡ read_command p
+    pub read_reply : type_of (instruction_at p) ≡ 0 → Err Reply ≡ read_command p
     unfolding read_command
     read_reply h = simp (le-ltb _ _ three, eq-eqb _ _ h)
 
     module _ (no-reply : type_of (instruction_at p) ≡ 0 → ⊥) where
-      pub read_cut : length p < header_size (instruction_at p) → refused Incomplete ≡ read_command p
+      pub read_cut : length p < header_size (instruction_at p) → Err Incomplete ≡ read_command p
       unfolding read_command
       read_cut h = simp (le-ltb _ _ three, ne_eqb _ _ no-reply, lt-ltb _ _ h)
 
       module _ (whole : header_size (instruction_at p) ≤ length p) where
-        pub read_damaged : (crc (take (header_size (instruction_at p)) p) ≡ 0 → ⊥) → refused HeaderCrc ≡ read_command p
+        pub read_damaged : (crc (take (header_size (instruction_at p)) p) ≡ 0 → ⊥) → Err HeaderCrc ≡ read_command p
         unfolding read_command
         read_damaged h = simp (le-ltb _ _ three, ne_eqb _ _ no-reply, le-ltb _ _ whole, ne_eqb _ _ h)
 
-        pub read_whole : crc (take (header_size (instruction_at p)) p) ≡ 0 → command p ≡ read_command p
+        pub read_whole : crc (take (header_size (instruction_at p)) p) ≡ 0 → Ok (Command (command p)) ≡ read_command p
         unfolding read_command
         read_whole h = simp (le-ltb _ _ three, ne_eqb _ _ no-reply, le-ltb _ _ whole, eq-eqb _ _ h)
 
 -- ---- the protocol
 
 module _ (q : ℕ) (p : List ℕ) (n : ℕ) where
-  pub protocol_extended : q ≡ 0x00 → refused ExtendedProtocol ≡ read_protocol q p n
+  pub protocol_extended : q ≡ 0x00 → Err ExtendedProtocol ≡ read_protocol q p n
   unfolding read_protocol
   protocol_extended e = rw e
 
@@ -71,7 +72,7 @@ module _ (q : ℕ) (p : List ℕ) (n : ℕ) where
     other : (m : ℕ) → m < 0xF0 → q ≡ m → ⊥
     other m l e = omega arith
 
-    in_range : read_protocol q p n ≡ cond (eqb q n) time_packet (refused UnknownProtocol)
+    in_range : read_protocol q p n ≡ cond (eqb q n) (Ok Time) (Err UnknownProtocol)
     unfolding read_protocol
     in_range = rw (
       ne_eqb q 0x01 (other 0x01 (omega arith)),
@@ -81,22 +82,22 @@ module _ (q : ℕ) (p : List ℕ) (n : ℕ) where
       le-leb q 0xFE k,
     )
 
-    pub protocol_time : q ≡ n → time_packet ≡ read_protocol q p n
+    pub protocol_time : q ≡ n → Ok Time ≡ read_protocol q p n
     protocol_time e = rw (in_range, eq-eqb q n e)
 
-    pub protocol_other_number : (q ≡ n → ⊥) → refused UnknownProtocol ≡ read_protocol q p n
+    pub protocol_other_number : (q ≡ n → ⊥) → Err UnknownProtocol ≡ read_protocol q p n
     protocol_other_number e = rw (in_range, ne_eqb q n e)
 
   module _ (x : q ≡ 0x00 → ⊥) (y : q ≡ 0x01 → ⊥) (z : q ≡ 0x03 → ⊥) where
-    pub protocol_below : q < 0xF0 → refused UnknownProtocol ≡ read_protocol q p n
+    pub protocol_below : q < 0xF0 → Err UnknownProtocol ≡ read_protocol q p n
     unfolding read_protocol
     protocol_below h = rw (ne_eqb q 0x01 y, ne_eqb q 0x03 z, ne_eqb q 0x00 x, lt-leb 0xF0 q h)
 
-    pub protocol_above : 0xFE < q → refused UnknownProtocol ≡ read_protocol q p n
+    pub protocol_above : 0xFE < q → Err UnknownProtocol ≡ read_protocol q p n
     unfolding read_protocol
     protocol_above h = rw (ne_eqb q 0x01 y, ne_eqb q 0x03 z, ne_eqb q 0x00 x, le-leb 0xF0 q (omega arith), lt-leb q 0xFE h)
 
-pub packet_short : (p : List ℕ) (n : ℕ) → length p < 2 → refused Incomplete ≡ read_packet p n
+pub packet_short : (p : List ℕ) (n : ℕ) → length p < 2 → Err Incomplete ≡ read_packet p n
 unfolding read_packet
 packet_short p n h = rw (lt-ltb _ _ h)
 
@@ -109,29 +110,28 @@ module _ (p : List ℕ) (n : ℕ) (two : 2 ≤ length p) where
   abbrev second : ℕ
   second = get_or p 1 0
 
-  pub packet_time : 0xF0 ≤ n → n ≤ 0xFE → second ≡ n → read_packet p n ≡ time_packet
+  pub packet_time : 0xF0 ≤ n → n ≤ 0xFE → second ≡ n → read_packet p n ≡ Ok Time
   packet_time low high e =
       sym (packet_protocol p n two) ∙ sym (protocol_time second p n (omega (arith, low, e)) (omega (arith, high, e)) e)
 
-  pub packet_unknown : (second ≡ 0x00 → ⊥) → (second ≡ 0x01 → ⊥) → (second ≡ 0x03 → ⊥) → (second ≡ n → ⊥) → read_packet p n ≡ refused UnknownProtocol
+  pub packet_unknown : (second ≡ 0x00 → ⊥) → (second ≡ 0x01 → ⊥) → (second ≡ 0x03 → ⊥) → (second ≡ n → ⊥) → read_packet p n ≡ Err UnknownProtocol
   packet_unknown x y z other = sym (packet_protocol p n two) ∙ go (dec_le 0xF0 second) (dec_le second 0xFE)
     where
-      go : Dec (0xF0 ≤ second) → Dec (second ≤ 0xFE) → read_protocol second p n ≡ refused UnknownProtocol
+      go : Dec (0xF0 ≤ second) → Dec (second ≤ 0xFE) → read_protocol second p n ≡ Err UnknownProtocol
       go (no h) k = sym (protocol_below second p n x y z (lt_of_not-le h))
       go (yes h) (no k) = sym (protocol_above second p n x y z (lt_of_not-le k))
       go (yes h) (yes k) = sym (protocol_other_number second p n h k other)
 
 -- ---- back from a packet that was read as a command: what the checks have shown
 
-abbrev rank : Reading → ℕ
-rank r = elim r [ Refused why ↦ 0 | Time ↦ 1 | Command h ↦ 2 ]
+abbrev rank : Result Packet Refusal → ℕ
+rank (Err why) = 0
+rank (Ok Time) = 1
+rank (Ok (Command c)) = 2
 
 -- what is read as something else is no command
-pub not_command : {h : Header} (r : Reading) → rank r < 2 → r ≡ Command h → ⊥
+pub not_command : {c : TheCommand} (r : Result Packet Refusal) → rank r < 2 → r ≡ Ok (Command c) → ⊥
 not_command r l e = omega (arith, l, ap rank e)
-
-no_command : {h : Header} {k : Path} (p : Packet) → rank p.reading < 2 → p ≡ record { reading = Command h; path = k } → ⊥
-no_command p l e = not_command p.reading l (ap (λ (q : Packet). q.reading) e)
 
 one_of_two : (q : ℕ) → (eqb q 0x01 || eqb q 0x03) ≡ true → (q ≡ 0x01) ⊎ (q ≡ 0x03)
 one_of_two q e = go (eqb q 0x01) refl
@@ -140,29 +140,34 @@ one_of_two q e = go (eqb q 0x01) refl
     go true f = inl (eqb-true q 0x01 f)
     go false f = inr (eqb-true q 0x03 (rw f at e))
 
--- of four tests in a row, each of which refuses, none did
-module _ {h : Header} {k : Path} where
-  passed : (a b c d : Bool) (r s t u : Refusal) (p : Packet)
-      → cond a (refused r) (cond b (refused s) (cond c (refused t) (cond d p (refused u)))) ≡ record { reading = Command h; path = k }
-      → (a ≡ false) × (b ≡ false) × (c ≡ false) × (p ≡ record { reading = Command h; path = k })
-  passed true b c d r s t u p e = absurd (no_command (refused r) (omega arith) e)
-  passed false true c d r s t u p e = absurd (no_command (refused s) (omega arith) e)
-  passed false false true d r s t u p e = absurd (no_command (refused t) (omega arith) e)
-  passed false false false true r s t u p e = (refl, refl, refl, e)
-  passed false false false false r s t u p e = absurd (no_command (refused u) (omega arith) e)
+abbrev command_or : TheCommand → Result Packet Refusal → TheCommand
+command_or d (Err why) = d
+command_or d (Ok Time) = d
+command_or d (Ok (Command c)) = c
 
-  protocol_passed : (a b c d : Bool) (r s t : Refusal) (p : Packet)
-      → cond a (refused r) (cond b p (cond c (refused s) (cond d time_packet (refused t)))) ≡ record { reading = Command h; path = k }
-      → (b ≡ true) × (p ≡ record { reading = Command h; path = k })
-  protocol_passed true b c d r s t p e = absurd (no_command (refused r) (omega arith) e)
-  protocol_passed false true c d r s t p e = (refl, e)
-  protocol_passed false false true d r s t p e = absurd (no_command (refused s) (omega arith) e)
-  protocol_passed false false false true r s t p e = absurd (no_command time_packet (omega arith) e)
-  protocol_passed false false false false r s t p e = absurd (no_command (refused t) (omega arith) e)
+-- of four tests in a row, each of which refuses, none did
+module _ {c : TheCommand} where
+  passed : (a b c' d : Bool) (r s t u : Refusal) (p : Result Packet Refusal)
+      → cond a (Err r) (cond b (Err s) (cond c' (Err t) (cond d p (Err u)))) ≡ Ok (Command c)
+      → (a ≡ false) × (b ≡ false) × (c' ≡ false) × (p ≡ Ok (Command c))
+  passed true b c' d r s t u p e = absurd (not_command (Err r) (omega arith) e)
+  passed false true c' d r s t u p e = absurd (not_command (Err s) (omega arith) e)
+  passed false false true d r s t u p e = absurd (not_command (Err t) (omega arith) e)
+  passed false false false true r s t u p e = (refl, refl, refl, e)
+  passed false false false false r s t u p e = absurd (not_command (Err u) (omega arith) e)
+
+  protocol_passed : (a b c' d : Bool) (r s t : Refusal) (p : Result Packet Refusal)
+      → cond a (Err r) (cond b p (cond c' (Err s) (cond d (Ok Time) (Err t)))) ≡ Ok (Command c)
+      → (b ≡ true) × (p ≡ Ok (Command c))
+  protocol_passed true b c' d r s t p e = absurd (not_command (Err r) (omega arith) e)
+  protocol_passed false true c' d r s t p e = (refl, e)
+  protocol_passed false false true d r s t p e = absurd (not_command (Err s) (omega arith) e)
+  protocol_passed false false false true r s t p e = absurd (not_command (Ok Time) (omega arith) e)
+  protocol_passed false false false false r s t p e = absurd (not_command (Err t) (omega arith) e)
 
   -- it has protocol 01 or 03, and was read by the checks above
-  pub packet_command : (p : List ℕ) (n : ℕ) → read_packet p n ≡ record { reading = Command h; path = k }
-      → ((get_or p 1 0 ≡ 0x01) ⊎ (get_or p 1 0 ≡ 0x03)) × (read_command p ≡ record { reading = Command h; path = k })
+  pub packet_command : (p : List ℕ) (n : ℕ) → read_packet p n ≡ Ok (Command c)
+      → ((get_or p 1 0 ≡ 0x01) ⊎ (get_or p 1 0 ≡ 0x03)) × (read_command p ≡ Ok (Command c))
   unfolding read_packet read_protocol
   packet_command p n e =
       let q = get_or p 1 0 in
@@ -171,32 +176,34 @@ module _ {h : Header} {k : Path} where
       (one_of_two q t.0, t.1)
 
   -- its header is whole, it is no reply, and its parts and its path are those at their places
-  pub command_read : (p : List ℕ) → read_command p ≡ record { reading = Command h; path = k }
-      → (header_size (instruction_at p) ≤ length p) × (type_of (instruction_at p) ≡ 0 → ⊥) × (command p ≡ record { reading = Command h; path = k })
+  pub command_read : (p : List ℕ) → read_command p ≡ Ok (Command c)
+      → (header_size (instruction_at p) ≤ length p) × (type_of (instruction_at p) ≡ 0 → ⊥) × (command p ≡ c)
   unfolding read_command
   command_read p e =
       let i = instruction_at p in
       let t = passed (ltb (length p) 3) (eqb (type_of i) 0) (ltb (length p) (header_size i)) (eqb (crc (take (header_size i) p)) 0)
-      Incomplete Reply Incomplete HeaderCrc (command p) e in
-      (ltb-false (length p) (header_size i) t.2, eqb-false (type_of i) 0 t.1, t.3)
+      Incomplete Reply Incomplete HeaderCrc (Ok (Command (command p))) e in
+      (ltb-false (length p) (header_size i) t.2, eqb-false (type_of i) 0 t.1, ap (command_or c) t.3)
 
 -- ---- a packet that was read as a command is that one command
 
-abbrev header_or : Header → Reading → Header
-header_or h r = elim r [ Refused why ↦ h | Time ↦ h | Command k ↦ k ]
+-- with the path that was read
+pub with_path : (r : Result Packet Refusal) (c : TheCommand) → r ≡ Ok (Command c) → r ≡ Ok (Command (record { header = c.header; path = path_read r }))
+with_path r c e = e ∙ ap (λ (k : Path). Ok (Command (record { header = c.header; path = k }))) (sym (ap path_read e))
 
-pub one_command : (r : Reading) (h k : Header) → r ≡ Command h → r ≡ Command k → k ≡ h
-one_command r h k e f = sym (ap (header_or h) f) ∙ ap (header_or h) e
+-- the same of its header alone
+pub one_command : (r : Result Packet Refusal) (h k : Header) {a b : Path}
+    → r ≡ Ok (Command (record { header = h; path = a })) → r ≡ Ok (Command (record { header = k; path = b })) → k ≡ h
+one_command r h k {a} {b} e f =
+    let c : TheCommand = record { header = h; path = a } in
+    ap (λ (x : Result Packet Refusal). (command_or c x).header) (sym f ∙ e)
 
-module _ (p : List ℕ) (n : ℕ) (h : Header) (is : (read_packet p n).reading ≡ Command h) where
-  as_read_law : read_packet p n ≡ record { reading = Command h; path = (read_packet p n).path }
-  as_read_law = λ i. record { reading = is i; path = (read_packet p n).path }
-
-  shown : (header_size (instruction_at p) ≤ length p) × (type_of (instruction_at p) ≡ 0 → ⊥) × (command p ≡ record { reading = Command h; path = (read_packet p n).path })
-  shown = command_read p (packet_command p n as_read_law).1
+module _ (p : List ℕ) (n : ℕ) (h : Header) {k : Path} (is : read_packet p n ≡ Ok (Command (record { header = h; path = k }))) where
+  shown : (header_size (instruction_at p) ≤ length p) × (type_of (instruction_at p) ≡ 0 → ⊥) × (command p ≡ record { header = h; path = k })
+  shown = command_read p (packet_command p n is).1
 
   parts_read : parts_at p (4 + reply_address_size (instruction_at p)) ≡ h
-  parts_read = ap (λ (k : Packet). header_or h k.reading) shown.2
+  parts_read = ap (λ (c : TheCommand). c.header) shown.2
 
   -- its header has the size that the third byte tells, and is whole
   pub size_read : header_size h.instruction ≡ header_size (instruction_at p)
@@ -214,7 +221,7 @@ module _ (p : List ℕ) (n : ℕ) (h : Header) (is : (read_packet p n).reading �
   protocol_read = sym (ap (λ (k : Header). k.protocol) parts_read)
 
   pub protocol_other : (h.protocol ≡ 0x01 → ⊥) → h.protocol ≡ 0x03
-  protocol_other other = go (packet_command p n as_read_law).0
+  protocol_other other = go (packet_command p n is).0
     where
       go : (get_or p 1 0 ≡ 0x01) ⊎ (get_or p 1 0 ≡ 0x03) → h.protocol ≡ 0x03
       go (inl a) = absurd (other (protocol_read ∙ a))
@@ -228,7 +235,7 @@ module _ (p : List ℕ) (n : ℕ) (h : Header) (is : (read_packet p n).reading �
 
 -- ---- a packet with protocol 01 or 03 is no time packet
 
-command_no_time : (p : List ℕ) → rank (read_command p).reading ≡ 1 → ⊥
+command_no_time : (p : List ℕ) → rank (read_command p) ≡ 1 → ⊥
 unfolding read_command
 command_no_time p =
     go (ltb (length p) 3) (eqb (type_of i) 0) (ltb (length p) (header_size i)) (eqb (crc (take (header_size i) p)) 0)
@@ -236,35 +243,35 @@ command_no_time p =
     i : Instruction
     i = instruction_at p
 
-    go : (a b c d : Bool) → rank (cond a (refused Incomplete) (cond b (refused Reply) (cond c (refused Incomplete) (cond d (command p) (refused HeaderCrc))))).reading ≡ 1 → ⊥
+    go : (a b c d : Bool) → rank (cond a (Err Incomplete) (cond b (Err Reply) (cond c (Err Incomplete) (cond d (Ok (Command (command p))) (Err HeaderCrc))))) ≡ 1 → ⊥
     go true b c d e = omega (arith, e)
     go false true c d e = omega (arith, e)
     go false false true d e = omega (arith, e)
     go false false false true e = omega (arith, e)
     go false false false false e = omega (arith, e)
 
-pub no_time : (p : List ℕ) (n : ℕ) → (get_or p 1 0 ≡ 0x01) ⊎ (get_or p 1 0 ≡ 0x03) → (read_packet p n).reading ≡ Time → ⊥
+pub no_time : (p : List ℕ) (n : ℕ) → (get_or p 1 0 ≡ 0x01) ⊎ (get_or p 1 0 ≡ 0x03) → read_packet p n ≡ Ok Time → ⊥
 unfolding read_packet
 no_time p n commands e = go (ltb (length p) 2) (rw (← protocol_command (get_or p 1 0) p n commands) at (ap rank e))
   where
-    go : (a : Bool) → rank (cond a (refused Incomplete) (read_command p)).reading ≡ 1 → ⊥
+    go : (a : Bool) → rank (cond a (Err Incomplete) (read_command p)) ≡ 1 → ⊥
     go true t = omega (arith, t)
     go false t = command_no_time p t
 
 -- so one that is read as a time packet had no zero in front
-pub time_bare : (p : List ℕ) (n : ℕ) → (read_packet (bare p) n).reading ≡ Time → bare p ≡ p
+pub time_bare : (p : List ℕ) (n : ℕ) → read_packet (bare p) n ≡ Ok Time → bare p ≡ p
 time_bare p n t = bare_other p (λ q e. no_time (bare p) n (inr (ap (λ (b : List ℕ). get_or b 1 0) (ap bare e ∙ bare_zero q))) t)
 
 -- ---- the path of a packet that was read has at most twelve bytes
 
-abbrev Short : Packet → Type 0
-Short k = k.path.count ≤ 12
+abbrev Short : Result Packet Refusal → Type 0
+Short k = (path_read k).count ≤ 12
 
-either : (t : Bool) (a b : Packet) → Short a → Short b → Short (cond t a b)
+either : (t : Bool) (a b : Result Packet Refusal) → Short a → Short b → Short (cond t a b)
 either true a b x y = x
 either false a b x y = y
 
-command_path : (p : List ℕ) → Short (command p)
+command_path : (p : List ℕ) → Short (Ok (Command (command p)))
 command_path p =
     let n = reply_address_size (instruction_at p) in
     path_short (part 4 n p) (omega (arith, length-take n (drop 4 p)))
@@ -273,22 +280,22 @@ read_path : (p : List ℕ) → Short (read_command p)
 unfolding read_command path_of
 read_path p =
     let i = instruction_at p in
-    let whole = cond (eqb (crc (take (header_size i) p)) 0) (command p) (refused HeaderCrc) in
-    let cut = cond (ltb (length p) (header_size i)) (refused Incomplete) whole in
-    either (ltb (length p) 3) (refused Incomplete) (cond (eqb (type_of i) 0) (refused Reply) cut) (omega arith)
-    (either (eqb (type_of i) 0) (refused Reply) cut (omega arith)
-    (either (ltb (length p) (header_size i)) (refused Incomplete) whole (omega arith)
-    (either (eqb (crc (take (header_size i) p)) 0) (command p) (refused HeaderCrc) (command_path p) (omega arith))))
+    let whole = cond (eqb (crc (take (header_size i) p)) 0) (Ok (Command (command p))) (Err HeaderCrc) in
+    let cut = cond (ltb (length p) (header_size i)) (Err Incomplete) whole in
+    either (ltb (length p) 3) (Err Incomplete) (cond (eqb (type_of i) 0) (Err Reply) cut) (omega arith)
+    (either (eqb (type_of i) 0) (Err Reply) cut (omega arith)
+    (either (ltb (length p) (header_size i)) (Err Incomplete) whole (omega arith)
+    (either (eqb (crc (take (header_size i) p)) 0) (Ok (Command (command p))) (Err HeaderCrc) (command_path p) (omega arith))))
 
 protocol_path : (q : ℕ) (p : List ℕ) (n : ℕ) → Short (read_protocol q p n)
 unfolding read_protocol path_of
 protocol_path q p n =
     let time = leb 0xF0 q && leb q 0xFE && eqb q n in
-    let other = cond time time_packet (refused UnknownProtocol) in
-    either (eqb q 0x01 || eqb q 0x03) (read_command p) (cond (eqb q 0x00) (refused ExtendedProtocol) other) (read_path p)
-    (either (eqb q 0x00) (refused ExtendedProtocol) other (omega arith) (either time time_packet (refused UnknownProtocol) (omega arith) (omega arith)))
+    let other = cond time (Ok Time) (Err UnknownProtocol) in
+    either (eqb q 0x01 || eqb q 0x03) (read_command p) (cond (eqb q 0x00) (Err ExtendedProtocol) other) (read_path p)
+    (either (eqb q 0x00) (Err ExtendedProtocol) other (omega arith) (either time (Ok Time) (Err UnknownProtocol) (omega arith) (omega arith)))
 
-pub packet_path : (p : List ℕ) (n : ℕ) → (read_packet p n).path.count ≤ 12
+pub packet_path : (p : List ℕ) (n : ℕ) → (path_read (read_packet p n)).count ≤ 12
 unfolding read_packet path_of
 packet_path p n =
-    either (ltb (length p) 2) (refused Incomplete) (read_protocol (get_or p 1 0) p n) (omega arith) (protocol_path (get_or p 1 0) p n)
+    either (ltb (length p) 2) (Err Incomplete) (read_protocol (get_or p 1 0) p n) (omega arith) (protocol_path (get_or p 1 0) p n)

@@ -1,16 +1,16 @@
 -- Laws of time packets: what one has passed, and when it is to be taken.
+use Rattle.std.specs.Prelude.{Option, Some, None}
 use mathlib.Core.Path.{◌≡◌, refl, sym, ap, ◌∙◌}
 use mathlib.Core.Bool.{Bool, true, false, cond, ◌&&◌, ◌||◌, or-true, false≢true}
 use mathlib.Core.Logic.{◌⊎◌, inl, inr, ⊎_elim}
-use mathlib.Core.List.{List}
-use Prim.Native.Nat.{ℕ, suc, ◌+◌, ◌*◌, ◌^◌, ◌<◌}
+use mathlib.Core.List.{List, [], ◌∷◌}
+use Prim.Native.Nat.{ℕ, zero, suc, ◌+◌, ◌*◌, ◌^◌, ◌<◌}
 use native.Mathlib.Omega.{arith}
 use native.Mathlib.Nat.{zero-mul, zero-add, mul-pos}
-use native.Mathlib.Numerals.{add-one}
-use borrow.Author.Tests.{eqb-true, eq-eqb}
+use borrow.Author.Tests.{eqb-true, eq-eqb, ne_eqb}
 use lib.Dec.{eqb}
-use lib.ListN.{length, get_or, drop}
-use lib.Seq.{drop-cons}
+use lib.ListN.{length, get_or}
+use Rattle.std.specs.List.{list_all}
 use Rattle.octets.specs.Crc.{crc}
 use Rattle.octets.specs.Places.{part}
 use Rattle.octets.specs.Numbers.{number, Digits}
@@ -22,8 +22,6 @@ use Rattle.packets.specs.declared.reading.End.TheVariants.{Eop, Eep}
 use Rattle.packets.specs.declared.time.Time.{Time as TheTime}
 use Rattle.packets.specs.declared.time.When.{When}
 use Rattle.packets.specs.declared.time.When.TheVariants.{AtWrap, AtOnce}
-use Rattle.packets.specs.declared.time.TimeReading.{TimeReading}
-use Rattle.packets.specs.declared.time.TimeReading.TheVariants.{ThrownAway, Taken}
 
 -- ---- tests
 
@@ -101,52 +99,50 @@ module _ (p : List ℕ) (end : End) (logical n : ℕ) where
         eq-eqb _ _ t.sum,
       )
 
-  abbrev is_taken : TimeReading → ℕ
-  is_taken r = elim r [ ThrownAway ↦ 0 | Taken s ↦ 1 ]
+  abbrev is_taken : Option TheTime → ℕ
+  is_taken r = elim r [ None ↦ 0 | Some s ↦ 1 ]
 
-  abbrev time_in : TimeReading → TheTime
-  time_in r = elim r [ ThrownAway ↦ time_at p | Taken s ↦ s ]
+  abbrev time_in : Option TheTime → TheTime
+  time_in r = elim r [ None ↦ time_at p | Some s ↦ s ]
 
   -- what is taken has passed, and says what stands in it
-  pub taken_passed : (t : TheTime) → read_time p end logical n ≡ Taken t → Passed × (time_at p ≡ t)
+  pub taken_passed : (t : TheTime) → read_time p end logical n ≡ Some t → Passed × (time_at p ≡ t)
   unfolding read_time
   taken_passed t = go (is_time_packet p end logical n) refl
     where
-      go : (b : Bool) → is_time_packet p end logical n ≡ b → cond b (Taken (time_at p)) ThrownAway ≡ Taken t → Passed × (time_at p ≡ t)
+      go : (b : Bool) → is_time_packet p end logical n ≡ b → cond b (Some (time_at p)) None ≡ Some t → Passed × (time_at p ≡ t)
       go true f e = (time_passed f, ap time_in e)
       go false f e = absurd (omega (arith, ap is_taken e))
 
   -- and what has not is thrown away
-  pub thrown_away : (Passed → ⊥) → read_time p end logical n ≡ ThrownAway
+  pub thrown_away : (Passed → ⊥) → read_time p end logical n ≡ None
   unfolding read_time
   thrown_away not = go (is_time_packet p end logical n) refl
     where
-      go : (b : Bool) → is_time_packet p end logical n ≡ b → cond b (Taken (time_at p)) ThrownAway ≡ ThrownAway
+      go : (b : Bool) → is_time_packet p end logical n ≡ b → cond b (Some (time_at p)) None ≡ None
       go true f = absurd (not (time_passed f))
       go false f = refl
 
   -- a time packet of bytes has a T below 2^56
-  pub taken_below : (t : TheTime) → Digits 256 p → read_time p end logical n ≡ Taken t → t.value < 2 ^ 56
+  pub taken_below : (t : TheTime) → Digits 256 p → read_time p end logical n ≡ Some t → t.value < 2 ^ 56
   taken_below t d e =
       let w = taken_passed t e in
       rw (ap (λ (s : TheTime). s.value) w.1) at (number_below p (4 + added_seconds p) 7 d (omega (arith, w.0.size)))
 
   -- one that is taken is addressed to the unit or to FE
-  pub taken_addressed : (t : TheTime) → read_time p end logical n ≡ Taken t → (get_or p 0 0 ≡ logical → ⊥) → (get_or p 0 0 ≡ 0xFE → ⊥) → ⊥
+  pub taken_addressed : (t : TheTime) → read_time p end logical n ≡ Some t → (get_or p 0 0 ≡ logical → ⊥) → (get_or p 0 0 ≡ 0xFE → ⊥) → ⊥
   taken_addressed t e unit all = ⊎_elim unit all (taken_passed t e).0.address
 
--- ---- bytes that are worth nothing, one after the other
+-- ---- bytes that are worth nothing are those that are all zero
 
-module _ (s : List ℕ) (i : ℕ) (there : i < length s) where
-  pub nothing_goes_on : get_or s i 0 ≡ 0 → number (drop i s) ≡ number (drop (i + 1) s)
-  nothing_goes_on e = ap number (drop-cons s i 0 there) ∙ rw (e, add-one i) (simp (zero-mul, zero-add))
-
-  pub nothing_ends : (get_or s i 0 ≡ 0 → ⊥) → number (drop i s) ≡ 0 → ⊥
-  nothing_ends differs z =
-      let d = get_or s i 0 in
-      let weight = 256 ^ length (drop (suc i) s) in
-      let more : 0 < d * weight = mul-pos (omega (arith, differs)) (pow_some 256 (omega arith) (length (drop (suc i) s))) in
-      omega (arith, more, sym (ap number (drop-cons s i 0 there)) ∙ z)
+pub zeros_worth : (s : List ℕ) → list_all (λ (b : ℕ). eqb b 0) s ≡ eqb (number s) 0
+zeros_worth [] = refl
+zeros_worth (zero ∷ s) = simp (zero-mul, zero-add) (zeros_worth s)
+zeros_worth (suc b ∷ s) =
+    let some : eqb (suc b) 0 ≡ false = ne_eqb (suc b) 0 (λ z. omega (arith, z)) in
+    let weight = 256 ^ length s in
+    let more : 0 < suc b * weight = mul-pos (omega arith) (pow_some 256 (omega arith) (length s)) in
+    rw some (sym (ne_eqb (suc b * weight + number s) 0 (λ z. omega (arith, more, z))))
 
 -- ---- when the time is to be taken, as a case and as its number
 

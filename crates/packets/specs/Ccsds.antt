@@ -1,20 +1,17 @@
 -- The CCSDS packet, which carries one space packet (document 02, 11).
+use Rattle.std.specs.Prelude.{Option, Some, None, Result, Ok, Err}
 use Rattle.std.specs.Prelude.{Bool, cond, not, ◌&&◌, ◌||◌, List, ◌∷◌, ℕ, ◌+◌, ◌/◌, ◌^◌, eqb, ltb, length, get_or, drop}
 use Rattle.octets.specs.Places.{part, placed}
 use Rattle.octets.specs.Numbers.{number}
 use Rattle.packets.specs.Reading.{is_eop}
 use Rattle.packets.specs.declared.reading.End.{End}
-use Rattle.packets.specs.declared.ccsds.CcsdsReading.{CcsdsReading}
-use Rattle.packets.specs.declared.ccsds.CcsdsReading.TheVariants.{NotTaken, TakenFor}
 use Rattle.packets.specs.declared.ccsds.Unsent.{Unsent}
 use Rattle.packets.specs.declared.ccsds.Unsent.TheVariants.{WrongSpacePacket, OutputTooShort}
-use Rattle.packets.specs.declared.ccsds.Sending.{Sending}
-use Rattle.packets.specs.declared.ccsds.Sending.TheVariants.{Sent, NotSent}
 
 -- The numbers of the request.
-abbrev pub ccsds_number_of : CcsdsReading → ℕ
-ccsds_number_of (TakenFor application) = 21
-ccsds_number_of NotTaken = 22
+abbrev pub ccsds_number_of : Option ℕ → ℕ
+ccsds_number_of (Some application) = 21
+ccsds_number_of None = 22
 
 abbrev pub unsent_number_of : Unsent → ℕ
 unsent_number_of WrongSpacePacket = 41
@@ -54,21 +51,21 @@ abbrev pub is_ccsds_packet : List ℕ → End → ℕ → Bool
 is_ccsds_packet p end logical =
     (eqb (get_or p 0 0) logical || eqb (get_or p 0 0) 0xFE) && eqb (get_or p 1 0) 0x02 && eqb (get_or p 2 0) 0x00 && is_eop end && is_space_packet (drop 4 p)
 
-unfoldable pub read_ccsds : List ℕ → End → ℕ → CcsdsReading
-read_ccsds p end logical = cond (is_ccsds_packet p end logical) (TakenFor (application_at p)) NotTaken
+unfoldable pub read_ccsds : List ℕ → End → ℕ → Option ℕ
+read_ccsds p end logical = cond (is_ccsds_packet p end logical) (Some (application_at p)) None
 
 -- ---- sending
 
 -- What comes of sending a space packet, with room for so many bytes: 41 goes before 42; else all of the packet is sent.
-unfoldable pub sending : List ℕ → ℕ → Sending
+unfoldable pub sending : List ℕ → ℕ → Result ℕ Unsent
 sending space room =
-    cond (not (is_space_packet space)) (NotSent WrongSpacePacket)
-    (cond (ltb room (4 + length space)) (NotSent OutputTooShort) (Sent (4 + length space)))
+    cond (not (is_space_packet space)) (Err WrongSpacePacket)
+    (cond (ltb room (4 + length space)) (Err OutputTooShort) (Ok (4 + length space)))
 
 -- What the output then holds: the packet at its start, or what it held.
-abbrev pub left_by : Sending → List ℕ → List ℕ → List ℕ
-left_by (Sent n) packet out = placed 0 packet out
-left_by (NotSent why) packet out = out
+abbrev pub left_by : Result ℕ Unsent → List ℕ → List ℕ → List ℕ
+left_by (Ok n) packet out = placed 0 packet out
+left_by (Err why) packet out = out
 
 unfoldable pub sent : ℕ → ℕ → List ℕ → List ℕ → List ℕ
 sent address application space out = left_by (sending space (length out)) (ccsds_packet_of address application space) out

@@ -1,4 +1,5 @@
 -- The time packet (document 01, 'Time', as request 12 of document 02 has it; 004, 'CCSDS Unsegmented Code Transfer Protocol Format', 'Draft P-Field format').
+use Rattle.std.specs.Prelude.{Option, Some, None}
 use Rattle.std.specs.Prelude.{Bool, cond, ◌&&◌, ◌||◌, List, [], ◌∷◌, ◌++◌, ℕ, ◌+◌, ◌-◌, ◌*◌, ◌/◌, ◌%◌, ◌^◌, eqb, length, get_or, replicate}
 use Rattle.octets.specs.Places.{part}
 use Rattle.octets.specs.Numbers.{number, bytes_of}
@@ -8,13 +9,11 @@ use Rattle.packets.specs.declared.reading.End.{End}
 use Rattle.packets.specs.declared.time.When.{When}
 use Rattle.packets.specs.declared.time.When.TheVariants.{AtWrap, AtOnce}
 use Rattle.packets.specs.declared.time.Time.{Time}
-use Rattle.packets.specs.declared.time.TimeReading.{TimeReading}
-use Rattle.packets.specs.declared.time.TimeReading.TheVariants.{ThrownAway, Taken}
 
 -- Document 01's number of each answer.
-abbrev pub time_number_of : TimeReading → ℕ
-time_number_of ThrownAway = 16
-time_number_of (Taken t) = 19
+abbrev pub time_number_of : Option Time → ℕ
+time_number_of None = 16
+time_number_of (Some t) = 19
 
 -- Document 01's number of each case, the last bit of a time packet's byte 3: 0 makes the time wait for the wrap, 1 sets it at once.
 abbrev pub when_number : When → ℕ
@@ -65,5 +64,5 @@ is_time_packet p end logical timeNumber =
 abbrev pub time_at : List ℕ → Time
 time_at p = record { epoch = get_or p 2 0; when = when_of (preamble_bits 7 7 p); value = number (part (4 + added_seconds p) 7 p) }
 
-unfoldable pub read_time : List ℕ → End → ℕ → ℕ → TimeReading
-read_time p end logical timeNumber = cond (is_time_packet p end logical timeNumber) (Taken (time_at p)) ThrownAway
+unfoldable pub read_time : List ℕ → End → ℕ → ℕ → Option Time
+read_time p end logical timeNumber = cond (is_time_packet p end logical timeNumber) (Some (time_at p)) None

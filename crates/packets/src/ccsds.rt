@@ -4,37 +4,11 @@ ghost use Rattle.packets.specs.Ccsds.{ccsds_number_of, unsent_number_of, is_spac
 
 use crate::reading::End;
 
-// What a packet of protocol 02 is: thrown away, or taken, for the user application of that number.
-#[derive(Clone, Copy)]
-pub enum CcsdsReading {
-    NotTaken,
-    TakenFor(u8),
-}
-
 // Why nothing is sent.
-#[derive(Clone, Copy)]
+#[derive(Clone, Copy, PartialEq, Eq)]
 pub enum Unsent {
-    WrongSpacePacket,
-    OutputTooShort,
-}
-
-// What came of sending: how many bytes the packet has, or why nothing was written.
-#[derive(Clone, Copy)]
-pub enum Sending {
-    Sent(usize),
-    NotSent(Unsent),
-}
-
-impl CcsdsReading {
-    // Document 02's number.
-    pub fn number(self) -> u8
-        ensures { result ≡ ccsds_number_of self }
-    {
-        match self {
-            CcsdsReading::TakenFor(_) => 21,
-            CcsdsReading::NotTaken => 22,
-        }
-    }
+    WrongSpacePacket = 41,
+    OutputTooShort = 42,
 }
 
 impl Unsent {
@@ -42,21 +16,19 @@ impl Unsent {
     pub fn number(self) -> u8
         ensures { result ≡ unsent_number_of self }
     {
-        match self {
-            Unsent::WrongSpacePacket => 41,
-            Unsent::OutputTooShort => 42,
-        }
+        self as u8
     }
 }
 
-// Reads a packet as a CCSDS packet to the unit with that logical address.
-pub fn read_ccsds(packet: &[u8], end: End, logical: u8) -> CcsdsReading
+// The user application that a packet is for, read as a CCSDS packet to the unit with that logical address. Anything else is for none, and is
+// thrown away.
+pub fn read_ccsds(packet: &[u8], end: End, logical: u8) -> Option<u8>
     ensures { result ≡ Ccsds·read_ccsds packet.now end logical }
 {
     if packet.len() < 4 {
-        return CcsdsReading::NotTaken;
+        return None;
     }
-    let eop = end.is_eop();
+    let eop = end == End::Eop;
     let right = is_space_packet(&packet[4..]);
     if ((packet[0] == logical) | (packet[0] == 0xFE))
         & (packet[1] == 0x02)
@@ -64,9 +36,19 @@ pub fn read_ccsds(packet: &[u8], end: End, logical: u8) -> CcsdsReading
         & eop
         & right
     {
-        return CcsdsReading::TakenFor(packet[3]);
+        return Some(packet[3]);
     }
-    CcsdsReading::NotTaken
+    None
+}
+
+// Document 02's number of what came of that: taken, or thrown away.
+pub fn ccsds_number(read: Option<u8>) -> u8
+    ensures { result ≡ ccsds_number_of read }
+{
+    match read {
+        Some(_) => 21,
+        None => 22,
+    }
 }
 
 // The space packet that a CCSDS packet carries: the part behind its first four bytes. Of fewer there is none.
@@ -79,22 +61,27 @@ pub fn space_packet(packet: &[u8]) -> &[u8]
     &packet[4..]
 }
 
-// Writes the CCSDS packet to an address, for a user application, at the start of a lent buffer, all or nothing.
-pub fn write_ccsds(address: u8, application: u8, space: &[u8], out: &mut [u8]) -> Sending
+// Writes the CCSDS packet to an address, for a user application, at the start of a lent buffer, all or nothing. Answers how many bytes it has.
+pub fn write_ccsds(
+    address: u8,
+    application: u8,
+    space: &[u8],
+    out: &mut [u8],
+) -> Result<usize, Unsent>
     ensures answers { result ≡ sending space.now (length out.old) }
     ensures leaves { out.new ≡ sent address application space.now out.old }
 {
     if !is_space_packet(space) {
-        return Sending::NotSent(Unsent::WrongSpacePacket);
+        return Err(Unsent::WrongSpacePacket);
     }
     let size = 4 + space.len();
     if out.len() < size {
-        return Sending::NotSent(Unsent::OutputTooShort);
+        return Err(Unsent::OutputTooShort);
     }
     let front = [address, 0x02, 0x00, application];
     octets::copy_part(&front, 0, 4, out, 0);
     octets::copy_part(space, 0, space.len(), out, 4);
-    Sending::Sent(size)
+    Ok(size)
 }
 
 // Whether bytes are a right space packet: of version 0, with as many bytes as its length field tells, which is 7 less.

@@ -5,7 +5,7 @@ ghost use Rattle.packets.specs.Header.{parts_at};
 use crate::instruction::Instruction;
 
 // Its parts, less the reply address, which a path keeps, and the CRC.
-#[derive(Clone, Copy)]
+#[derive(Clone, Copy, PartialEq, Eq)]
 pub struct Header {
     pub target: u8,
     pub protocol: u8,

@@ -4,7 +4,7 @@ ghost use Rattle.packets.specs.Instruction.{type_of, code_of, kind_of, is_write 
 ghost use Rattle.packets.specs.Instruction.{reply_address_size as Instruction·reply_address_size, header_size as Instruction·header_size, reply_form as Instruction·reply_form, is_unused as Instruction·is_unused, is_read as Instruction·is_read, is_rmw as Instruction·is_rmw};
 
 // What a command code asks for.
-#[derive(Clone, Copy)]
+#[derive(Clone, Copy, PartialEq, Eq)]
 pub enum Kind {
     Unused,
     Read,
@@ -16,35 +16,20 @@ impl Kind {
     pub fn is_unused(self) -> bool
         ensures { result ≡ Instruction·is_unused self }
     {
-        match self {
-            Kind::Unused => true,
-            Kind::Read => false,
-            Kind::ReadModifyWrite => false,
-            Kind::Write => false,
-        }
+        self == Kind::Unused
     }
 
     pub fn is_read(self) -> bool
         ensures { result ≡ Instruction·is_read self }
     {
-        match self {
-            Kind::Unused => false,
-            Kind::Read => true,
-            Kind::ReadModifyWrite => false,
-            Kind::Write => false,
-        }
+        self == Kind::Read
     }
 
     // Whether it is the read-modify-write.
     pub fn is_rmw(self) -> bool
         ensures { result ≡ Instruction·is_rmw self }
     {
-        match self {
-            Kind::Unused => false,
-            Kind::Read => false,
-            Kind::ReadModifyWrite => true,
-            Kind::Write => false,
-        }
+        self == Kind::ReadModifyWrite
     }
 }
 
@@ -68,7 +53,7 @@ const KINDS: [Kind; 16] = [
     Kind::Write,
 ];
 
-#[derive(Clone, Copy)]
+#[derive(Clone, Copy, PartialEq, Eq)]
 pub struct Instruction {
     pub byte: u8,
 }

@@ -10,10 +10,10 @@ mod reading;
 mod reply;
 mod time;
 
-pub use ccsds::{CcsdsReading, Sending, Unsent, read_ccsds, space_packet, write_ccsds};
+pub use ccsds::{Unsent, ccsds_number, read_ccsds, space_packet, write_ccsds};
 pub use header::Header;
 pub use instruction::{Instruction, Kind};
 pub use path::Path;
-pub use reading::{End, Packet, Reading, Refusal, bare, read_packet};
+pub use reading::{Command, End, Packet, Refusal, bare, read_packet};
 pub use reply::{data_place, reply_length, write_repeated_reply, write_reply, write_reply_around};
-pub use time::{Time, TimeReading, When, read_time};
+pub use time::{Time, When, read_time, time_number};

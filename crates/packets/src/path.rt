@@ -1,9 +1,9 @@
 // The path of a reply (document 01, 'Reply' and 'Owner'; 001, 5.1.6).
-ghost use Rattle.std.specs.Prelude.{◌≡◌, [], ◌≤◌, length};
-ghost use Rattle.packets.specs.Path.{path_of, kept, path_bytes, same_path, same_bytes as Path·same_bytes};
+ghost use Rattle.std.specs.Prelude.{◌≡◌, [], ◌≤◌, not, ◌==◌, length, position};
+ghost use Rattle.packets.specs.Path.{path_of, kept, path_bytes, same_path};
 
 // A path as it is kept: the last `count` of the bytes; what stands before them is zero.
-#[derive(Clone, Copy)]
+#[derive(Clone, Copy, PartialEq, Eq)]
 pub struct Path {
     pub bytes: [u8; 12],
     pub count: usize,
@@ -36,12 +36,7 @@ impl Path {
     pub fn same(self, other: Path) -> bool
         ensures { result ≡ same_path self other }
     {
-        let mine = self.bytes;
-        let its = other.bytes;
-        if !same_bytes(mine, its) {
-            return false;
-        }
-        self.count == other.count
+        self == other
     }
 }
 
@@ -61,26 +56,15 @@ pub(crate) fn keep(address: &[u8]) -> Path
 fn path_count(address: &[u8]) -> usize
     ensures { result ≡ length (path_of address.now) }
 {
-    let n = address.len();
-    let mut zeros = 0;
-    while 1 < n - zeros {
-        if address[zeros] != 0 {
-            return n - zeros;
-        }
-        zeros += 1;
+    match leading_zeros(address) {
+        Some(zeros) => address.len() - zeros,
+        None => address.len().min(1),
     }
-    n - zeros
 }
 
-fn same_bytes(a: [u8; 12], b: [u8; 12]) -> bool
-    ensures { result ≡ Path·same_bytes a b }
+// How many zeros stand before the first byte that is none.
+fn leading_zeros(address: &[u8]) -> Option<usize>
+    ensures { result ≡ position (λ b. not (b == 0)) address.now }
 {
-    let mut i = 0;
-    while i < 12 {
-        if a[i] != b[i] {
-            return false;
-        }
-        i += 1;
-    }
-    true
+    address.iter().position(|&byte| byte != 0)
 }

@@ -2,10 +2,7 @@
 ghost use Rattle.std.specs.Prelude.{◌≡◌, ◌+◌, ◌≤◌, length};
 ghost use Rattle.packets.specs.Instruction.{reply_address_size};
 ghost use Rattle.packets.specs.Header.{instruction_at};
-ghost use Rattle.packets.specs.Reading.{is_eop as Reading·is_eop, number_of, time_packet, read_command as Reading·read_command, read_packet as Reading·read_packet};
-ghost use Rattle.packets.specs.Reading.{bare as Reading·bare};
-ghost use Rattle.packets.specs.Reading.{refused as Reading·refused};
-ghost use Rattle.packets.specs.Reading.{command as Reading·command};
+ghost use Rattle.packets.specs.Reading.{is_eop as Reading·is_eop, number_of, bare as Reading·bare, command as Reading·command, read_command as Reading·read_command, read_packet as Reading·read_packet};
 
 use crate::header::Header;
 use crate::instruction::Instruction;
@@ -13,33 +10,33 @@ use crate::path::Path;
 use crate::{header, path};
 
 // How a packet ended.
-#[derive(Clone, Copy)]
+#[derive(Clone, Copy, PartialEq, Eq)]
 pub enum End {
     Eop,
     Eep,
 }
 
 // Why a packet goes no further.
-#[derive(Clone, Copy)]
+#[derive(Clone, Copy, PartialEq, Eq)]
 pub enum Refusal {
-    Incomplete,
-    UnknownProtocol,
-    ExtendedProtocol,
-    Reply,
-    HeaderCrc,
+    Incomplete = 11,
+    UnknownProtocol = 12,
+    ExtendedProtocol = 13,
+    Reply = 14,
+    HeaderCrc = 15,
 }
 
-#[derive(Clone, Copy)]
-pub enum Reading {
-    Refused(Refusal),
+// A packet that goes further: one for the time receiver, or a command.
+#[derive(Clone, Copy, PartialEq, Eq)]
+pub enum Packet {
     Time,
-    Command(Header),
+    Command(Command),
 }
 
-// A packet that was read. The path is a command's; any other packet has none.
-#[derive(Clone, Copy)]
-pub struct Packet {
-    pub reading: Reading,
+// A command: the parts of its header, and the path of its reply address.
+#[derive(Clone, Copy, PartialEq, Eq)]
+pub struct Command {
+    pub header: Header,
     pub path: Path,
 }
 
@@ -47,10 +44,7 @@ impl End {
     pub fn is_eop(self) -> bool
         ensures { result ≡ Reading·is_eop self }
     {
-        match self {
-            End::Eop => true,
-            End::Eep => false,
-        }
+        self == End::Eop
     }
 }
 
@@ -59,13 +53,7 @@ impl Refusal {
     pub fn number(self) -> u8
         ensures { result ≡ number_of self }
     {
-        match self {
-            Refusal::Incomplete => 11,
-            Refusal::UnknownProtocol => 12,
-            Refusal::ExtendedProtocol => 13,
-            Refusal::Reply => 14,
-            Refusal::HeaderCrc => 15,
-        }
+        self as u8
     }
 }
 
@@ -84,75 +72,43 @@ pub fn bare(packet: &[u8]) -> &[u8]
 }
 
 // Reads the bytes of a packet as they are, by the second, the protocol. `number` is the time number of the unit.
-pub fn read_packet(packet: &[u8], number: u8) -> Packet
+pub fn read_packet(packet: &[u8], number: u8) -> Result<Packet, Refusal>
     ensures { result ≡ Reading·read_packet packet.now number }
 {
-    if packet.len() < 2 {
-        return refused(Refusal::Incomplete);
-    }
-    let protocol = packet[1];
+    let protocol = *packet.get(1).ok_or(Refusal::Incomplete)?;
     match protocol {
-        0x00 => refused(Refusal::ExtendedProtocol),
+        0x00 => Err(Refusal::ExtendedProtocol),
         0x01 | 0x03 => read_command(packet),
-        0xF0..=0xFE => {
-            if protocol == number {
-                for_time()
-            } else {
-                refused(Refusal::UnknownProtocol)
-            }
-        }
-        _ => refused(Refusal::UnknownProtocol),
+        0xF0..=0xFE if protocol == number => Ok(Packet::Time),
+        _ => Err(Refusal::UnknownProtocol),
     }
 }
 
 // Reads a packet of protocol 01 or 03.
-fn read_command(packet: &[u8]) -> Packet
+fn read_command(packet: &[u8]) -> Result<Packet, Refusal>
     ensures { result ≡ Reading·read_command packet.now }
 {
-    if packet.len() < 3 {
-        return refused(Refusal::Incomplete);
-    }
-    let instruction = Instruction { byte: packet[2] };
+    let byte = *packet.get(2).ok_or(Refusal::Incomplete)?;
+    let instruction = Instruction { byte };
     if instruction.packet_type() == 0 {
-        return refused(Refusal::Reply);
+        return Err(Refusal::Reply);
     }
-    let size = instruction.header_size();
-    if packet.len() < size {
-        return refused(Refusal::Incomplete);
+    let header = packet
+        .get(..instruction.header_size())
+        .ok_or(Refusal::Incomplete)?;
+    if octets::crc_of(header) != 0 {
+        return Err(Refusal::HeaderCrc);
     }
-    if octets::crc_of(&packet[0..size]) != 0 {
-        return refused(Refusal::HeaderCrc);
-    }
-    command(packet, 4 + instruction.reply_address_size())
+    Ok(Packet::Command(command_of(packet, 4 + instruction.reply_address_size())))
 }
 
 // The parts of a command whose header is whole, and whose reply address ends before `at`.
-fn command(packet: &[u8], at: usize) -> Packet
+fn command_of(packet: &[u8], at: usize) -> Command
     requires { (at ≡ 4 + reply_address_size (instruction_at packet.now)) × (at + 12 ≤ length packet.now) }
     ensures { result ≡ Reading·command packet.now }
 {
-    let header = header::parts(packet, at);
-    let path = path::keep(&packet[4..at]);
-    Packet {
-        reading: Reading::Command(header),
-        path,
-    }
-}
-
-fn refused(why: Refusal) -> Packet
-    ensures { result ≡ Reading·refused why }
-{
-    Packet {
-        reading: Reading::Refused(why),
-        path: Path::none(),
-    }
-}
-
-fn for_time() -> Packet
-    ensures { result ≡ time_packet }
-{
-    Packet {
-        reading: Reading::Time,
-        path: Path::none(),
+    Command {
+        header: header::parts(packet, at),
+        path: path::keep(&packet[4..at]),
     }
 }

@@ -1,51 +1,45 @@
 // The time packet (document 01, 'Time', with request 12 of document 02; 004, 'CCSDS Unsegmented Code Transfer Protocol Format').
-ghost use Rattle.std.specs.Prelude.{◌≡◌, ◌+◌, ◌≤◌, eqb, length};
-ghost use Rattle.octets.specs.Numbers.{number as number_of};
+ghost use Rattle.std.specs.Prelude.{◌≡◌, ◌+◌, ◌≤◌, ◌==◌, length};
+ghost use Rattle.std.specs.List.{list_all};
 ghost use Rattle.packets.specs.Time.{time_number_of, when_of as Time·when_of, octet_bits, added_seconds as Time·added_seconds, is_time_packet as Time·is_time_packet, time_at as Time·time_at, read_time as Time·read_time};
 
 use crate::reading::End;
 
 // When the time that a packet brings is to be taken: at the wrap of the Time-Code, or at once.
-#[derive(Clone, Copy)]
+#[derive(Clone, Copy, PartialEq, Eq)]
 pub enum When {
     AtWrap,
     AtOnce,
 }
 
 // What a time packet says: the epoch code (9F or AF), when to take the time, and the time: seconds in 32 bits, their fraction in 24.
-#[derive(Clone, Copy)]
+#[derive(Clone, Copy, PartialEq, Eq)]
 pub struct Time {
     pub epoch: u8,
     pub when: When,
     pub value: u64,
 }
 
-#[derive(Clone, Copy)]
-pub enum TimeReading {
-    ThrownAway,
-    Taken(Time),
-}
-
-impl TimeReading {
-    // Document 01's number.
-    pub fn number(self) -> u8
-        ensures { result ≡ time_number_of self }
-    {
-        match self {
-            TimeReading::ThrownAway => 16,
-            TimeReading::Taken(_) => 19,
-        }
-    }
-}
-
-// Reads a packet as a time packet of the unit with that logical address and time number.
-pub fn read_time(packet: &[u8], end: End, logical: u8, number: u8) -> TimeReading
+// The time that a packet brings, read as a time packet of the unit with that logical address and time number. Anything else brings none, and is
+// thrown away.
+pub fn read_time(packet: &[u8], end: End, logical: u8, number: u8) -> Option<Time>
     ensures { result ≡ Time·read_time packet.now end logical number }
 {
-    if !is_time_packet(packet, end, logical, number) {
-        return TimeReading::ThrownAway;
+    if is_time_packet(packet, end, logical, number) {
+        Some(time_at(packet))
+    } else {
+        None
     }
-    TimeReading::Taken(time_at(packet))
+}
+
+// Document 01's number of what came of that: thrown away, or taken.
+pub fn time_number(read: Option<Time>) -> u8
+    ensures { result ≡ time_number_of read }
+{
+    match read {
+        None => 16,
+        Some(_) => 19,
+    }
 }
 
 // How many octets of seconds the second preamble octet adds, by its bits 1-2, and how many of fraction, by its bits 3-5 (004, 'Draft P-Field
@@ -73,8 +67,8 @@ fn is_time_packet(p: &[u8], end: End, logical: u8, number: u8) -> bool
     if p.len() != 12 + seconds + added_fraction(octet) {
         return false;
     }
-    let eop = end.is_eop();
-    let zeros = worth_nothing(&p[4..4 + seconds]);
+    let eop = end == End::Eop;
+    let zeros = are_zeros(&p[4..4 + seconds]);
     let sum = octets::crc_of(p);
     eop & ((p[0] == logical) | (p[0] == 0xFE))
         & (p[1] == number)
@@ -84,18 +78,11 @@ fn is_time_packet(p: &[u8], end: End, logical: u8, number: u8) -> bool
         & (sum == 0)
 }
 
-// Whether bytes are worth nothing.
-fn worth_nothing(s: &[u8]) -> bool
-    ensures { result ≡ eqb (number_of s.now) 0 }
+// Whether bytes are all zero, and so worth nothing.
+fn are_zeros(s: &[u8]) -> bool
+    ensures { result ≡ list_all (λ b. b == 0) s.now }
 {
-    let mut i = 0;
-    while i < s.len() {
-        if s[i] != 0 {
-            return false;
-        }
-        i += 1;
-    }
-    true
+    s.iter().all(|&byte| byte == 0)
 }
 
 // What a time packet says of the time. T is behind the seconds that were added.

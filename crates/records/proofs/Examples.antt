@@ -1,5 +1,5 @@
 -- Worked examples: document 01's own log, with what it prints; its records, its unit, and texts, by hand.
-use Rattle.std.proofs.Common.{◌≡◌, ℕ, true, List, [], ◌∷◌, ◌++◌, map, length, replicate, refl}
+use Rattle.std.proofs.Common.{◌≡◌, ℕ, true, List, [], ◌∷◌, ◌++◌, map, length, replicate, refl, None, Some, Err}
 use Rattle.octets.specs.Crc.{crc, mirrored, bits, remainder, message, modulo}
 use Rattle.packets.specs.Instruction.{kind_of}
 use Rattle.packets.specs.Path.{path_of, or_one_zero, without_leading_zeros, same_path}
@@ -19,11 +19,9 @@ use Rattle.unit.specs.Plan.{reply_count, planned_for, decided_by_data, decided_o
 use Rattle.unit.specs.Act.{stored, data_for, replied_to, changed}
 use Rattle.unit.specs.Judge.{judged}
 use Rattle.unit.specs.Calls.{take_packet, take_time_code, take_ticks}
-use Rattle.unit.specs.declared.fate.Status.TheVariants.{NotAuthorised}
+use Rattle.unit.specs.declared.fate.Offence.TheVariants.{NotAuthorised}
 use Rattle.unit.specs.declared.fate.Fate.{Fate}
 use Rattle.unit.specs.declared.fate.Fate.TheVariants.{NoSuchLink, Unread, TimeThrownAway, TimeTaken, Replied}
-use Rattle.unit.specs.declared.fate.Told.TheVariants.{Nothing, Byte}
-use Rattle.unit.specs.declared.clock.Waiting.TheVariants.{NoValue}
 use Rattle.unit.specs.declared.unit.Unit.{Unit as TheUnit}
 use Rattle.records.specs.Record.{kind_number, end_number, read_record, size_of}
 use Rattle.records.specs.Text.{ascii, glyph, decimal, hexes, status_text, record_line}
@@ -100,11 +98,11 @@ pub digits_are : map glyph (0 ∷ 1 ∷ 2 ∷ 3 ∷ 4 ∷ 5 ∷ 6 ∷ 7 ∷ 8 �
 digits_are = refl
 
 -- a status is two digits or -
-pub statuses_are : map status_text (Nothing ∷ Byte 0x00 ∷ Byte 0x0C ∷ Byte 0xF1 ∷ []) ≡ ascii "-" ∷ ascii "00" ∷ ascii "0c" ∷ ascii "f1" ∷ []
+pub statuses_are : map status_text (None ∷ Some 0x00 ∷ Some 0x0C ∷ Some 0xF1 ∷ []) ≡ ascii "-" ∷ ascii "00" ∷ ascii "0c" ∷ ascii "f1" ∷ []
 statuses_are = refl
 
 -- record 7, replied with status 10, a reply of two bytes
-pub line_is : record_line 7 (Replied NotAuthorised) (0x00 ∷ 0xFF ∷ []) ≡ ascii "7 20 0a 2 00ff\n"
+pub line_is : record_line 7 (Replied (Err NotAuthorised)) (0x00 ∷ 0xFF ∷ []) ≡ ascii "7 20 0a 2 00ff\n"
 unfolding record_line decimal
 line_is = refl
 
@@ -213,7 +211,7 @@ fields_are = refl
 -- no owner; no Time-Code, no time and none that waits; nothing counted
 pub rest_is :
     (bench_unit.owner ≡ record { device = 0; initiator = 0; path = record { bytes = replicate 12 0; count = 0 }; link = 0 })
-    × (bench_unit.clock ≡ record { last = 0; elapsed = record { value = 0; epoch = 0 }; waiting = NoValue })
+    × (bench_unit.clock ≡ record { last = 0; elapsed = record { value = 0; epoch = 0 }; waiting = None })
     × (bench_unit.counters ≡ replicate 11 0)
 unfolding path_of
 rest_is = (refl, refl, refl)

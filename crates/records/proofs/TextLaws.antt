@@ -1,12 +1,10 @@
 -- Laws of text: pieces put one behind the other are one text, digits are spelt from the last to the first, and how long a line can be.
-use Rattle.std.proofs.Common.{◌≡◌, ℕ, zero, suc, ◌+◌, ◌*◌, ◌/◌, ◌%◌, ◌^◌, ◌<◌, ◌≤◌, Bool, true, false, cond, ltb, List, [], ◌∷◌, ◌++◌, length, get_or, take, drop, set, refl, ap, ◌∙◌, append_assoc, add-one, arith, length-append, length-take-le, take-suc, drop_at, le-ltb, lt-ltb}
+use Rattle.std.proofs.Common.{◌≡◌, ℕ, zero, suc, ◌+◌, ◌*◌, ◌/◌, ◌%◌, ◌^◌, ◌<◌, ◌≤◌, Bool, true, false, cond, ltb, List, [], ◌∷◌, ◌++◌, length, get_or, take, drop, set, refl, ap, ◌∙◌, append_assoc, add-one, arith, length-append, length-take-le, take-suc, drop_at, le-ltb, lt-ltb, Option, Some, None}
 use native.Mathlib.Nat.{pow-succ'}
 use lib.Seq.{sets-eq, set_split}
 use Rattle.octets.proofs.PlaceLaws.{length_placed, placed_on}
 use Rattle.unit.specs.Fate.{fate_number, fate_status}
 use Rattle.unit.specs.declared.fate.Fate.{Fate}
-use Rattle.unit.specs.declared.fate.Told.{Told}
-use Rattle.unit.specs.declared.fate.Told.TheVariants.{Nothing, Byte}
 use Rattle.records.specs.Between.{Put}
 use Rattle.records.specs.Text.{glyph, decimal_in, decimal, hex, hexes, spaced, ended, status_text, reply_text, record_line}
 
@@ -112,9 +110,9 @@ pub decimal_length : (n : ℕ) → length (decimal n) ≤ 20
 unfolding decimal
 decimal_length n = decimal_in_law 20 n
 
-status_length : (t : Told) → length (status_text t) ≤ 2
-status_length Nothing = omega arith
-status_length (Byte b) = omega arith
+status_length : (t : Option ℕ) → length (status_text t) ≤ 2
+status_length None = omega arith
+status_length (Some b) = omega arith
 
 reply_length_law : (s : List ℕ) → length (reply_text s) ≤ 21 + 2 * length s
 reply_length_law [] = omega (arith, decimal_length 0)

@@ -1,12 +1,11 @@
 -- What a log means: the text that the bench prints of it (document 01, 'Bench program').
-use Rattle.std.specs.Prelude.{ℕ, zero, suc, ◌+◌, ◌%◌, ◌^◌, true, false, cond, List, ◌∷◌, ◌++◌, length, take, drop, replicate, ◌==◌}
+use Rattle.std.specs.Prelude.{ℕ, zero, suc, ◌+◌, ◌%◌, ◌^◌, true, false, cond, List, ◌∷◌, ◌++◌, length, take, drop, replicate, ◌==◌, None}
 use Rattle.octets.specs.Places.{part}
 use Rattle.packets.specs.declared.reading.End.{End}
 use Rattle.unit.specs.Owner.{unowned}
 use Rattle.unit.specs.Given.{Arrived, Lent}
 use Rattle.unit.specs.Calls.{Outcome, leaving, take_packet, take_time_code, take_ticks}
 use Rattle.unit.specs.declared.windows.Window.{Window}
-use Rattle.unit.specs.declared.clock.Waiting.TheVariants.{NoValue}
 use Rattle.unit.specs.declared.calls.Answer.{Answer}
 use Rattle.unit.specs.declared.unit.Unit.{Unit as TheUnit}
 use Rattle.records.specs.Record.{read_record, size_of}
@@ -44,7 +43,7 @@ bench_unit = record {
     divider = 0;
   };
   owner = unowned;
-  clock = record { last = 0; elapsed = record { value = 0; epoch = 0 }; waiting = NoValue };
+  clock = record { last = 0; elapsed = record { value = 0; epoch = 0 }; waiting = None };
   counters = replicate 11 0;
 }
 

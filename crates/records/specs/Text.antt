@@ -1,11 +1,9 @@
 -- The lines of text (document 01, 'Bench program'), as bytes.
-use Rattle.std.specs.Prelude.{ℕ, zero, suc, ◌+◌, ◌/◌, ◌%◌, cond, List, [], ◌∷◌, ◌++◌, length, nat_lt}
+use Rattle.std.specs.Prelude.{ℕ, zero, suc, ◌+◌, ◌/◌, ◌%◌, cond, List, [], ◌∷◌, ◌++◌, length, nat_lt, Option, Some, None}
 use Prim.Native.Char.{code}
 use Prim.Native.String.{String, [] as none, ◌∷◌ as ◌then◌}
 use Rattle.unit.specs.Fate.{fate_number, fate_status}
 use Rattle.unit.specs.declared.fate.Fate.{Fate}
-use Rattle.unit.specs.declared.fate.Told.{Told}
-use Rattle.unit.specs.declared.fate.Told.TheVariants.{Nothing, Byte}
 
 -- A text as the codes of its characters, which are ASCII here.
 abbrev pub ascii : String → List ℕ
@@ -40,9 +38,9 @@ abbrev pub ended : List ℕ → List ℕ
 ended text = text ++ (0x0A ∷ [])
 
 -- A status is two digits or '-'.
-abbrev pub status_text : Told → List ℕ
-status_text Nothing = 0x2D ∷ []
-status_text (Byte b) = hex b
+abbrev pub status_text : Option ℕ → List ℕ
+status_text None = 0x2D ∷ []
+status_text (Some b) = hex b
 
 -- A reply is its length, then, if that is not 0, a space and its bytes.
 abbrev pub reply_text : List ℕ → List ℕ

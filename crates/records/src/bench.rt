@@ -4,7 +4,7 @@ ghost use Rattle.records.specs.Log.{bench_unit as Log·bench_unit, start_bench};
 ghost use Rattle.records.specs.Run.{is_over, at_stage as Run·at_stage};
 
 use packets::Path;
-use unit::{Clock, Elapsed, Fields, Owner, Unit, Waiting, Window, Windows};
+use unit::{Clock, Fields, Owner, Unit, Window, Windows};
 
 // How far the text has got: nothing printed, the heading printed, all printed.
 #[derive(Clone, Copy)]
@@ -52,30 +52,12 @@ pub fn start() -> Bench
 fn bench_unit() -> Unit
     ensures { result ≡ Log·bench_unit }
 {
-    let none = Window {
-        start: 0,
-        end: 0,
-        read: false,
-        write: false,
-    };
-    let mut table = [none; 16];
+    let mut table = [Window::default(); 16];
     table[0] = Window {
         start: 0,
         end: 4096,
         read: true,
         write: true,
-    };
-    let fields = Fields {
-        vendor: 0,
-        version: 0,
-        status: 0,
-        active: 0,
-        information: 0,
-        maker: 0,
-        serial: 0,
-        base: 0,
-        range: 0,
-        divider: 0,
     };
     let owner = Owner {
         device: 0,
@@ -83,20 +65,15 @@ fn bench_unit() -> Unit
         path: Path::none(),
         link: 0,
     };
-    let clock = Clock {
-        last: 0,
-        elapsed: Elapsed { value: 0, epoch: 0 },
-        waiting: Waiting::NoValue,
-    };
     Unit {
         logical: 0x43,
         key: 0x2A,
         number: 0xF0,
         links: 4,
         windows: Windows { table, count: 1 },
-        fields,
+        fields: Fields::default(),
         owner,
-        clock,
+        clock: Clock::default(),
         counters: [0u32; 11],
     }
 }

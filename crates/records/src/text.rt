@@ -6,7 +6,7 @@ ghost use Rattle.records.specs.Between.{Put};
 ghost use Rattle.records.specs.Text.{decimal, hexes, spaced, ended, status_text, reply_text, record_line};
 ghost use Rattle.records.specs.Text.{glyph as Text·glyph};
 
-use unit::{Fate, Told};
+use unit::Fate;
 
 // Text as it is.
 pub(crate) fn put(out: &mut [u8], at: usize, text: &[u8]) -> usize
@@ -85,13 +85,13 @@ fn glyph(digit: u8) -> u8
     b'a' - 10 + digit
 }
 
-fn put_status(out: &mut [u8], at: usize, told: Told) -> usize
+fn put_status(out: &mut [u8], at: usize, told: Option<u8>) -> usize
     requires { at + length (spaced (status_text told)) ≤ length out.old }
     ensures { Put (spaced (status_text told)) at out.old out.new result }
 {
     match told {
-        Told::Nothing => put(out, at, &[b'-', b' ']),
-        Told::Byte(b) => put(out, at, &[glyph(b / 16), glyph(b % 16), b' ']),
+        None => put(out, at, &[b'-', b' ']),
+        Some(b) => put(out, at, &[glyph(b / 16), glyph(b % 16), b' ']),
     }
 }
 

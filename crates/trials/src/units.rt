@@ -3,7 +3,7 @@
 use console::{Fields, Row, say};
 use packets::End;
 use script::{byte, number};
-use unit::{Answer, Clock, Elapsed, Fate, Owner, Told, Unit, Waiting, Window};
+use unit::{Answer, Clock, Elapsed, Fate, Owner, Unit, Window};
 
 // The most that is lent of memory, and of a reply buffer.
 const ROOM: usize = 65600;
@@ -47,7 +47,10 @@ impl Trial {
             3 => u.windows.count = n as usize,
             4 => u.clock.last = low,
             5 => u.clock.elapsed.value = n,
-            6 => u.clock.waiting = waiting(n),
+            6 => u.clock.waiting = Some(Elapsed {
+                value: n,
+                epoch: 0x9F,
+            }),
             7 => u.owner.path.count = n as usize,
             8 => u.owner.link = low,
             9 => u.counters = [word; 11],
@@ -131,10 +134,6 @@ fn fresh(size: usize) -> Unit {
     unit
 }
 
-fn waiting(value: u64) -> Waiting {
-    Waiting::Value(Elapsed { value, epoch: 0x9F })
-}
-
 // The fields as held are in the order of their struct.
 fn set_field(fields: &mut unit::Fields, what: u8, word: u32) {
     match what {
@@ -160,8 +159,8 @@ fn first(s: &[u8], n: usize) -> &[u8] {
 fn told(name: &[u8], fate: Fate) {
     say!(name; ": {}", fate.number());
     match fate.status() {
-        Told::Nothing => say!(" -"),
-        Told::Byte(b) => say!(" {b:02x}"),
+        None => say!(" -"),
+        Some(b) => say!(" {b:02x}"),
     }
 }
 
@@ -182,8 +181,8 @@ fn clock(clock: Clock) {
     say!(" clock {:02x}", clock.last);
     elapsed(clock.elapsed);
     match clock.waiting {
-        Waiting::NoValue => say!(" none"),
-        Waiting::Value(value) => elapsed(value),
+        None => say!(" none"),
+        Some(value) => elapsed(value),
     }
     say!("\n");
 }

@@ -1,8 +1,13 @@
 -- Laws of what is done: bytes combined, a byte to be repeated, the last of bytes.
-use Rattle.std.proofs.Common.{◌≡◌, ℕ, zero, suc, ◌+◌, ◌-◌, ◌<◌, ◌≤◌, List, [], ◌∷◌, ◌++◌, length, get_or, take, drop, set, replicate, sym, refl, ap, ◌∙◌, add-one, arith, length-take-le, drop_at}
+use Rattle.std.proofs.Common.{◌≡◌, false, eqb, ◌≢◌, ne_eqb, ℕ, zero, suc, ◌+◌, ◌-◌, ◌<◌, ◌≤◌, List, [], ◌∷◌, ◌++◌, length, get_or, take, drop, set, replicate, sym, refl, ap, ◌∙◌, add-one, arith, length-take-le, drop_at}
 use lib.Seq.{paste, paste-suc}
 use Rattle.octets.specs.Places.{part, placed}
 use Rattle.octets.proofs.PlaceLaws.{length_part, length_placed, part_at, part_bytes, part_placed, part_split, placed_after, placed_none}
+use Rattle.packets.specs.Reading.{number_of}
+use Rattle.unit.specs.Fate.{Status, fate_number}
+use Rattle.unit.specs.declared.fate.Fate.{Fate}
+use Rattle.unit.specs.declared.fate.Fate.TheVariants.{TimeChanged, Unusable, NoSuchLink, NoRoom, Unread, TimeThrownAway, NotObeyed, Obeyed, TimeTaken, Replied}
+use Rattle.unit.proofs.FateLaws.{unread_number}
 use Rattle.unit.specs.Act.{combine_byte, combined, last_of}
 
 -- ---- bytes combined, one by one
@@ -103,3 +108,17 @@ last_none p m from count at e = rw e (sym (placed_none at m))
 pub last_scattered : (p m : List ℕ) {then : List ℕ} (from count at : ℕ) → 1 ≤ count → from + count ≤ length p
     → then ≡ placed at (part (from + count - 1) 1 p) m → then ≡ placed at (last_of (part from count p)) m
 last_scattered p m from count at h l e = e ∙ ap (λ (b : List ℕ). placed at b m) (sym (last_part p from count h l))
+
+-- ---- a fate without a reply
+
+pub not_replied : (fate : Fate) → ((s : Status) → fate ≢ Replied s) → eqb (fate_number fate) 20 ≡ false
+not_replied TimeChanged n = refl
+not_replied Unusable n = refl
+not_replied NoSuchLink n = refl
+not_replied NoRoom n = refl
+not_replied (Unread why) n = ne_eqb (number_of why) 20 (λ e. omega (arith, e, (unread_number why).1))
+not_replied TimeThrownAway n = refl
+not_replied (NotObeyed s) n = refl
+not_replied Obeyed n = refl
+not_replied TimeTaken n = refl
+not_replied (Replied s) n = absurd (n s refl)

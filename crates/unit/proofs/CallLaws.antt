@@ -1,21 +1,20 @@
 -- Laws of calls: what fates 1, 2 and 3 leave; the lengths of memory, reply buffer and reply; fate and length of the reply are as judged.
-use Rattle.std.proofs.Common.{◌≡◌, ℕ, ◌%◌, ◌^◌, ◌≤◌, Bool, true, false, cond, List, length, sym, refl, ap, ◌∙◌, arith}
-use Rattle.packets.specs.Reading.{read_packet}
+use Rattle.std.proofs.Common.{◌≡◌, ℕ, ◌%◌, ◌^◌, ◌≤◌, List, length, sym, refl, ap, ◌∙◌, arith, Ok, Err}
+use Rattle.packets.specs.Reading.{read_packet, path_read}
 use Rattle.packets.specs.Reply.{replied}
 use Rattle.packets.specs.declared.header.Header.{Header}
 use Rattle.packets.specs.declared.path.Path.{Path}
 use Rattle.packets.proofs.ReadingLaws.{header_whole}
 use Rattle.packets.proofs.ReplyLaws.{length_replied}
-use Rattle.unit.specs.Fate.{is_success, fate_number}
+use Rattle.unit.specs.Fate.{Status, fate_number}
 use Rattle.unit.specs.Clock.{after_code, after_ticks}
 use Rattle.unit.specs.Act.{with_clock}
 use Rattle.unit.specs.Given.{Arrived, as_read, Lent, sizes_of}
 use Rattle.unit.specs.Decide.{header_status, all_at_hand, data_status_of}
 use Rattle.unit.specs.Plan.{unanswered_fate}
 use Rattle.unit.specs.Judge.{judged, fate_in, length_in}
-use Rattle.unit.specs.Calls.{Outcome, without_reply, leaving, done_by, take_packet, take_time_code, take_ticks}
-use Rattle.unit.specs.declared.fate.Status.{Status}
-use Rattle.unit.specs.declared.fate.Fate.TheVariants.{NotObeyed, Obeyed, Replied}
+use Rattle.unit.specs.Calls.{Outcome, without_reply, leaving, take_packet, take_time_code, take_ticks, done}
+use Rattle.unit.specs.declared.fate.Fate.TheVariants.{Replied}
 use Rattle.unit.specs.declared.judging.Sizes.{Sizes}
 use Rattle.unit.specs.declared.judging.Ruling.{Ruling}
 use Rattle.unit.specs.declared.judging.Ruling.TheVariants.{Ends, SetsTime, Planned}
@@ -27,15 +26,12 @@ use Rattle.unit.proofs.CommandLaws.{take_command, packet_is, small_is, command_i
 
 -- a command without a reply has a number above 3
 silent_high : (s : Status) → fate_number (unanswered_fate s) ≤ 3 → ⊥
-silent_high s = go (is_success s)
-  where
-    go : (t : Bool) → fate_number (cond t Obeyed (NotObeyed s)) ≤ 3 → ⊥
-    go true l = omega arith
-    go false l = omega arith
+silent_high (Ok done) l = omega arith
+silent_high (Err offence) l = omega arith
 
 module _ (u : TheUnit) (p : Arrived) where
   abbrev path : Path
-  path = (read_packet (as_read p).packet u.number).path
+  path = path_read (read_packet (as_read p).packet u.number)
 
   module _ (lent : Lent) where
     -- fates 1, 2 and 3 leave everything
@@ -76,18 +72,18 @@ module _ (u : TheUnit) (p : Arrived) where
 
   -- ---- what is judged is what becomes of it
 
-  told_by : (r : Ruling) (k : Path) (lent : Lent)
-      → ((done_by r k u (as_read p).packet p.link lent).answer.fate ≡ fate_in r) × ((done_by r k u (as_read p).packet p.link lent).answer.length ≡ length_in r)
-  told_by (Ends fate) k lent = (refl, refl)
-  told_by (SetsTime t) k lent = (refl, refl)
-  told_by (Planned h plan) k lent = (refl, refl)
+  told_by : (r : Ruling) (lent : Lent)
+      → ((done r u (as_read p).packet p.link lent).answer.fate ≡ fate_in r) × ((done r u (as_read p).packet p.link lent).answer.length ≡ length_in r)
+  told_by (Ends fate) lent = (refl, refl)
+  told_by (SetsTime t) lent = (refl, refl)
+  told_by (Planned c plan) lent = (refl, refl)
 
   -- fate, with its status, and length of the reply are those of the ruling
   pub as_judged : (lent : Lent)
-      → ((take_packet u p lent).answer.fate ≡ fate_in (judged u (as_read p) (sizes_of lent)).ruling)
-      × ((take_packet u p lent).answer.length ≡ length_in (judged u (as_read p) (sizes_of lent)).ruling)
+      → ((take_packet u p lent).answer.fate ≡ fate_in (judged u (as_read p) (sizes_of lent)))
+      × ((take_packet u p lent).answer.length ≡ length_in (judged u (as_read p) (sizes_of lent)))
   unfolding take_packet
-  as_judged lent = let j = judged u (as_read p) (sizes_of lent) in told_by j.ruling j.path lent
+  as_judged lent = told_by (judged u (as_read p) (sizes_of lent)) lent
 
   -- so of what is lent only the sizes tell them (and of the counters nothing does: judged_aside)
   pub by_sizes : (lent other : Lent) → sizes_of lent ≡ sizes_of other
@@ -95,7 +91,7 @@ module _ (u : TheUnit) (p : Arrived) where
   by_sizes lent other e =
       let a = as_judged lent in
       let b = as_judged other in
-      (a.0 ∙ ap (λ (n : Sizes). fate_in (judged u (as_read p) n).ruling) e ∙ sym b.0, a.1 ∙ ap (λ (n : Sizes). length_in (judged u (as_read p) n).ruling) e ∙ sym b.1)
+      (a.0 ∙ ap (λ (n : Sizes). fate_in (judged u (as_read p) n)) e ∙ sym b.0, a.1 ∙ ap (λ (n : Sizes). length_in (judged u (as_read p) n)) e ∙ sym b.1)
 
 -- a small call has no reply
 pub code_length : (u : TheUnit) (byte : ℕ) → (take_time_code u byte).length ≡ 0

@@ -1,17 +1,15 @@
 -- Laws of the time, in document 01's words ('Time'): each test in the definition has been decided, and the rest is computed.
-use Rattle.std.proofs.Common.{◌≡◌, ℕ, ◌+◌, ◌-◌, ◌*◌, ◌/◌, ◌%◌, ◌^◌, ◌<◌, ◌≤◌, Bool, true, false, ◌&&◌, eqb, ◌≢◌, ◌⊎◌, refl, ◌∙◌, inl, inr, add-zero, lt_of_not-le, arith, eq-eqb, ne_eqb, eqb-true, le-leb}
+use Rattle.std.proofs.Common.{◌≡◌, ℕ, ◌+◌, ◌-◌, ◌*◌, ◌/◌, ◌%◌, ◌^◌, ◌<◌, ◌≤◌, Bool, true, false, ◌&&◌, eqb, ◌≢◌, ◌⊎◌, refl, ◌∙◌, inl, inr, add-zero, lt_of_not-le, arith, eq-eqb, ne_eqb, eqb-true, le-leb, Option, None, Some}
 use mathlib.Core.Bool.{and-false}
 use native.Mathlib.Decide.{dec_le}
 use borrow.Author.Tests.{lt-leb}
 use Rattle.packets.specs.declared.time.When.TheVariants.{AtWrap, AtOnce}
 use Rattle.unit.specs.Clock.{after_time, nearest_second, after_code, after_ticks}
 use Rattle.unit.specs.declared.clock.Elapsed.{Elapsed}
-use Rattle.unit.specs.declared.clock.Waiting.{Waiting}
-use Rattle.unit.specs.declared.clock.Waiting.TheVariants.{NoValue, Value}
 use Rattle.unit.specs.declared.clock.Clock.{Clock}
 
 -- a clock part by part: last Time-Code, ET, epoch code, what waits
-abbrev pub Shows : Clock → ℕ → ℕ → ℕ → Waiting → Type 0
+abbrev pub Shows : Clock → ℕ → ℕ → ℕ → Option Elapsed → Type 0
 Shows c last et epoch waiting = (c.last ≡ last) × (c.elapsed.value ≡ et) × (c.elapsed.epoch ≡ epoch) × (c.waiting ≡ waiting)
 
 -- ---- the second that is nearest
@@ -50,13 +48,13 @@ nearest_near et b = go (dec_le (2 ^ 23) (et % 2 ^ 24))
 
 module _ (c : Clock) where
   -- a time packet whose last preamble bit is 1 sets ET at once, with its epoch code, and drops a waiting value
-  pub set_at_once : (et epoch : ℕ) → Shows (after_time c (record { epoch = epoch; when = AtOnce; value = et })) c.last et epoch NoValue
+  pub set_at_once : (et epoch : ℕ) → Shows (after_time c (record { epoch = epoch; when = AtOnce; value = et })) c.last et epoch None
   unfolding after_time
   set_at_once et epoch = (refl, refl, refl, refl)
 
   -- one where it is 0 makes its value wait, with its epoch code, and replaces another
   pub set_at_wrap : (et epoch : ℕ)
-      → Shows (after_time c (record { epoch = epoch; when = AtWrap; value = et })) c.last c.elapsed.value c.elapsed.epoch (Value (record { value = et; epoch = epoch }))
+      → Shows (after_time c (record { epoch = epoch; when = AtWrap; value = et })) c.last c.elapsed.value c.elapsed.epoch (Some (record { value = et; epoch = epoch }))
   unfolding after_time
   set_at_wrap et epoch = (refl, refl, refl, refl)
 
@@ -66,23 +64,23 @@ module _ (c : Clock) where
   ticks_add ticks = (refl, refl, refl, refl)
 
   -- Time-Code 0 behind 63: a waiting value becomes ET and waits no longer
-  pub code_waited : (w : Elapsed) → c.last ≡ 63 → c.waiting ≡ Value w → Shows (after_code c 0) 0 w.value w.epoch NoValue
+  pub code_waited : (w : Elapsed) → c.last ≡ 63 → c.waiting ≡ Some w → Shows (after_code c 0) 0 w.value w.epoch None
   unfolding after_code
   code_waited w e f = rw (eq-eqb c.last 63 e, f) (refl, refl, refl, refl)
 
   -- else ET goes to the nearest second:
-  pub code_wraps : c.last ≡ 63 → c.waiting ≡ NoValue → Shows (after_code c 0) 0 (nearest_second c.elapsed.value) c.elapsed.epoch NoValue
+  pub code_wraps : c.last ≡ 63 → c.waiting ≡ None → Shows (after_code c 0) 0 (nearest_second c.elapsed.value) c.elapsed.epoch None
   unfolding after_code
   code_wraps e f = rw (eq-eqb c.last 63 e, f) (refl, refl, refl, refl)
 
   -- from half a second on seconds go up by one (modulo 2^32), and the fraction is 0
-  pub code_next_second : c.last ≡ 63 → c.waiting ≡ NoValue → 2 ^ 23 ≤ c.elapsed.value % 2 ^ 24
-      → Shows (after_code c 0) 0 ((c.elapsed.value / 2 ^ 24 + 1) % 2 ^ 32 * 2 ^ 24) c.elapsed.epoch NoValue
+  pub code_next_second : c.last ≡ 63 → c.waiting ≡ None → 2 ^ 23 ≤ c.elapsed.value % 2 ^ 24
+      → Shows (after_code c 0) 0 ((c.elapsed.value / 2 ^ 24 + 1) % 2 ^ 32 * 2 ^ 24) c.elapsed.epoch None
   code_next_second e f h = let w = code_wraps e f in (w.0, w.1 ∙ nearest_next c.elapsed.value h, w.2, w.3)
 
   -- below it seconds stay, and the fraction is 0
-  pub code_same_second : c.last ≡ 63 → c.waiting ≡ NoValue → c.elapsed.value % 2 ^ 24 < 2 ^ 23
-      → Shows (after_code c 0) 0 (c.elapsed.value / 2 ^ 24 * 2 ^ 24) c.elapsed.epoch NoValue
+  pub code_same_second : c.last ≡ 63 → c.waiting ≡ None → c.elapsed.value % 2 ^ 24 < 2 ^ 23
+      → Shows (after_code c 0) 0 (c.elapsed.value / 2 ^ 24 * 2 ^ 24) c.elapsed.epoch None
   code_same_second e f h = let w = code_wraps e f in (w.0, w.1 ∙ nearest_same c.elapsed.value h, w.2, w.3)
 
   -- the next Time-Code becomes the top six of the 24 bits of the fraction, and the rest is 0; what waits goes on waiting

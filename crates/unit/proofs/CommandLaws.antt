@@ -1,24 +1,24 @@
 -- The ways that a packet and a command can go: what holds of each of them holds of every one. No memory command changes the unit, no field
 -- command changes memory.
-use Rattle.std.proofs.Common.{◌≡◌, ℕ, ◌+◌, Bool, true, false, cond, eqb, ◌≢◌, List, [], length, refl}
+use Rattle.std.proofs.Common.{◌≡◌, ℕ, ◌+◌, Bool, true, false, cond, eqb, ◌≢◌, List, [], length, refl, Ok, Err, ap, subst}
+use Rattle.std.specs.Prelude.{Option, Some, None, Result, Ok, Err}
 use Rattle.octets.specs.Places.{part}
 use Rattle.octets.specs.Numbers.{number}
 use Rattle.packets.specs.Instruction.{wants_reply, header_size}
 use Rattle.packets.specs.Header.{kind_in}
-use Rattle.packets.specs.Reading.{read_packet}
+use Rattle.packets.specs.Reading.{read_packet, path_read}
+use Rattle.packets.proofs.ReadingLaws.{with_path}
 use Rattle.packets.specs.Reply.{reply_length, replied}
 use Rattle.packets.specs.Time.{read_time}
 use Rattle.packets.specs.declared.instruction.Kind.{Kind}
 use Rattle.packets.specs.declared.instruction.Kind.TheVariants.{Unused, Read, ReadModifyWrite, Write}
 use Rattle.packets.specs.declared.header.Header.{Header}
 use Rattle.packets.specs.declared.path.Path.{Path}
-use Rattle.packets.specs.declared.reading.Reading.{Reading}
-use Rattle.packets.specs.declared.reading.Reading.TheVariants.{Refused, Time, Command}
+use Rattle.packets.specs.declared.reading.Packet.{Packet}
+use Rattle.packets.specs.declared.reading.Packet.TheVariants.{Time, Command}
 use Rattle.packets.specs.declared.reading.Refusal.{Refusal}
 use Rattle.packets.specs.declared.time.Time.{Time as TheTime}
-use Rattle.packets.specs.declared.time.TimeReading.{TimeReading}
-use Rattle.packets.specs.declared.time.TimeReading.TheVariants.{ThrownAway, Taken}
-use Rattle.unit.specs.Fate.{byte_of, is_success, fate_number}
+use Rattle.unit.specs.Fate.{Status, byte_of, is_success, fate_number}
 use Rattle.unit.specs.Counters.{counted_for}
 use Rattle.unit.specs.Clock.{after_time, time_code_written}
 use Rattle.unit.specs.Owner.{swapped}
@@ -30,7 +30,7 @@ use Rattle.unit.specs.Plan.{action_of, field_action_of, unanswered_fate, reply_c
 use Rattle.unit.specs.Judge.{is_link}
 use Rattle.unit.specs.Act.{stored, data_for, replied_to, with_owner, with_fields, with_clock, field_written, changed, counted_unit}
 use Rattle.unit.specs.Calls.{Outcome, without_reply, leaving, acted, done, take_packet, small_call}
-use Rattle.unit.specs.declared.fate.Status.{Status}
+use Rattle.unit.specs.declared.fate.Offence.{Offence}
 use Rattle.unit.specs.declared.fate.Fate.{Fate}
 use Rattle.unit.specs.declared.fate.Fate.TheVariants.{TimeChanged, Unusable, NoSuchLink, NoRoom, Unread, TimeThrownAway, NotObeyed, Obeyed, TimeTaken, Replied}
 use Rattle.unit.specs.declared.calls.Answer.{Answer}
@@ -54,12 +54,16 @@ take_command u h path p lent = acted (decided u h path p (length lent.reply)) u 
 
 module _ (u : TheUnit) (p : Arrived) where
   abbrev path : Path
-  path = (read_packet (as_read p).packet u.number).path
+  path = path_read (read_packet (as_read p).packet u.number)
 
-  abbrev read : Reading
-  read = (read_packet (as_read p).packet u.number).reading
+  abbrev read : Result Packet Refusal
+  read = read_packet (as_read p).packet u.number
 
-  abbrev time : TimeReading
+  -- it is the command with that header, and with its path
+  abbrev Commands : Header → Type 0
+  Commands h = read ≡ Ok (Command (record { header = h; path = path }))
+
+  abbrev time : Option TheTime
   time = read_time (as_read p).packet p.end u.logical u.number
 
   -- the fate is all, counted; and the time is taken
@@ -82,24 +86,27 @@ module _ (u : TheUnit) (p : Arrived) where
 
     pub packets_are : (Works false → Both (without_reply Unusable u))
         → (Works true → Linked false → Both (without_reply NoSuchLink u))
-        → (Works true → Linked true → (why : Refusal) → read ≡ Refused why → Both (ended (Unread why)))
-        → (Works true → Linked true → read ≡ Time → time ≡ ThrownAway → Both (ended TimeThrownAway))
-        → (Works true → Linked true → read ≡ Time → (t : TheTime) → time ≡ Taken t → Both (timed t))
-        → (Works true → Linked true → (h : Header) → read ≡ Command h → R (take_command u h path (as_read p) lent) (take_command u h path (as_read p) (with_memory lent n)))
+        → (Works true → Linked true → (why : Refusal) → read ≡ Err why → Both (ended (Unread why)))
+        → (Works true → Linked true → read ≡ Ok Time → time ≡ None → Both (ended TimeThrownAway))
+        → (Works true → Linked true → read ≡ Ok Time → (t : TheTime) → time ≡ Some t → Both (timed t))
+        → (Works true → Linked true → (h : Header) → Commands h → R (take_command u h path (as_read p) lent) (take_command u h path (as_read p) (with_memory lent n)))
         → R (take_packet u p lent) (take_packet u p (with_memory lent n))
     unfolding take_packet take_command counted_for
     packets_are one two refused away taken command =
         rw (← long)
-        (judged_is u (as_read p) (sizes_of lent) (λ j. R (done j u (as_read p).packet p.link lent) (done j u (as_read p).packet p.link (with_memory lent n))) one two refused away taken command)
+        (judged_is u (as_read p) (sizes_of lent) (λ j. R (done j u (as_read p).packet p.link lent) (done j u (as_read p).packet p.link (with_memory lent n))) one two refused away taken
+        (λ e f c g.
+        subst (λ (k : Path). R (take_command u c.header k (as_read p) lent) (take_command u c.header k (as_read p) (with_memory lent n))) (ap path_read g)
+        (command e f c.header (with_path read c g))))
 
   -- and on one memory
   module _ (lent : Lent) (Q : Outcome → Type 0) where
     pub packet_is : (usable u (length lent.memory) ≡ false → Q (leaving (without_reply Unusable u) lent))
         → (usable u (length lent.memory) ≡ true → is_link u p.link ≡ false → Q (leaving (without_reply NoSuchLink u) lent))
-        → (usable u (length lent.memory) ≡ true → is_link u p.link ≡ true → (why : Refusal) → read ≡ Refused why → Q (leaving (ended (Unread why)) lent))
-        → (usable u (length lent.memory) ≡ true → is_link u p.link ≡ true → read ≡ Time → Q (leaving (ended TimeThrownAway) lent))
-        → (usable u (length lent.memory) ≡ true → is_link u p.link ≡ true → read ≡ Time → (t : TheTime) → Q (leaving (timed t) lent))
-        → (usable u (length lent.memory) ≡ true → is_link u p.link ≡ true → (h : Header) → read ≡ Command h → Q (take_command u h path (as_read p) lent))
+        → (usable u (length lent.memory) ≡ true → is_link u p.link ≡ true → (why : Refusal) → read ≡ Err why → Q (leaving (ended (Unread why)) lent))
+        → (usable u (length lent.memory) ≡ true → is_link u p.link ≡ true → read ≡ Ok Time → Q (leaving (ended TimeThrownAway) lent))
+        → (usable u (length lent.memory) ≡ true → is_link u p.link ≡ true → read ≡ Ok Time → (t : TheTime) → Q (leaving (timed t) lent))
+        → (usable u (length lent.memory) ≡ true → is_link u p.link ≡ true → (h : Header) → Commands h → Q (take_command u h path (as_read p) lent))
         → Q (take_packet u p lent)
     packet_is one two refused away taken command =
         packets_are lent lent.memory refl (λ o o'. Q o) one two refused (λ e f g w. away e f g) (λ e f g t w. taken e f g t) command
@@ -195,7 +202,7 @@ module _ (u : TheUnit) (h : Header) (path : Path) (p : Arrived) where
     planned_acts : (s : Status) (a : Action) → NoRooms → BothDo s (changed a u h.initiator path p.link) a → acting (planned_for h path s a (length r))
     unfolding replied_to stored changed counted_for
     planned_acts s a none does =
-        planned_is h path s a (length r) acting (λ w l. none) (λ w l. does.0 w) (λ w e. rw e at (does.1 w)) (λ w e. rw e at (does.1 w))
+        planned_is h path s a (length r) acting (λ w l. none) (λ w l. does.0 w) (λ w e. rw e at (does.1 w)) (λ w o e. rw e at (does.1 w))
 
     pub commands_are : NoRooms
         → (is_success first ≡ false → BothAnswer first u m n [] [])
@@ -232,24 +239,24 @@ module _ (u : TheUnit) (h : Header) (path : Path) (p : Arrived) where
 
 -- its fate: 3, 20, 17 with a status that is not 0, or 18
 pub command_fate : (u : TheUnit) (h : Header) (path : Path) (p : Arrived) (lent : Lent) (P : Fate → Type 0)
-    → P NoRoom → ((s : Status) → P (Replied s)) → ((s : Status) → is_success s ≡ false → P (NotObeyed s)) → P Obeyed
+    → P NoRoom → ((s : Status) → P (Replied s)) → ((offence : Offence) → P (NotObeyed offence)) → P Obeyed
     → P (take_command u h path p lent).answer.fate
 command_fate u h path p lent P three twenty seventeen eighteen =
     command_is u h path p lent (λ o. P o.answer.fate) three (λ e. either (header_status u h path p.link)) (λ e a. either (data_status_of h p))
     (λ e a. either (data_status_of h p))
   where
-    quiet : (s : Status) (t : Bool) → is_success s ≡ t → P (cond t Obeyed (NotObeyed s))
-    quiet s true e = eighteen
-    quiet s false e = seventeen s e
+    quiet : (s : Status) → P (unanswered_fate s)
+    quiet (Ok done) = eighteen
+    quiet (Err offence) = seventeen offence
 
     either : {A B : Type 0} (s : Status) → (A → P (Replied s)) × (B → P (unanswered_fate s))
-    either s = (λ w. twenty s, λ w. quiet s (is_success s) refl)
+    either s = (λ w. twenty s, λ w. quiet s)
 
 -- ---- the unit after a packet: as it was, with the time of a time packet, or after a swap or a write to a field; and counted
 
 module _ (u : TheUnit) (p : Arrived) (lent : Lent) (Q : TheUnit → Type 0) (counted : (f : Fate) (v : TheUnit) → Q v → Q (counted_unit f v)) where
   abbrev path' : Path
-  path' = (read_packet (as_read p).packet u.number).path
+  path' = path_read (read_packet (as_read p).packet u.number)
 
   -- what holds where a command on fields is accepted
   abbrev Changes : Header → Type 0
@@ -258,8 +265,8 @@ module _ (u : TheUnit) (p : Arrived) (lent : Lent) (Q : TheUnit → Type 0) (cou
       × (kind_in h ≡ Write → (word : ℕ) → Q (with_clock u (time_code_written u.clock word)) × Q (with_fields u (divider_written u.fields word)))
 
   pub unit_is : Q u
-      → (usable u (length lent.memory) ≡ true → (t : TheTime) → read_time (as_read p).packet p.end u.logical u.number ≡ Taken t → Q (with_clock u (after_time u.clock t)))
-      → (usable u (length lent.memory) ≡ true → is_link u p.link ≡ true → (h : Header) → (read_packet (as_read p).packet u.number).reading ≡ Command h
+      → (usable u (length lent.memory) ≡ true → (t : TheTime) → read_time (as_read p).packet p.end u.logical u.number ≡ Some t → Q (with_clock u (after_time u.clock t)))
+      → (usable u (length lent.memory) ≡ true → is_link u p.link ≡ true → (h : Header) → read_packet (as_read p).packet u.number ≡ Ok (Command (record { header = h; path = path' }))
       → (h.protocol ≡ 0x01 → ⊥) → is_success (header_status u h path' p.link) ≡ true → Changes h)
       → Q (take_packet u p lent).answer.unit
   unit_is same time fields =

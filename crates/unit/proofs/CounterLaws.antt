@@ -6,8 +6,10 @@ use Rattle.packets.specs.Reading.{read_packet}
 use Rattle.packets.specs.Reply.{replied}
 use Rattle.packets.specs.declared.header.Header.{Header}
 use Rattle.packets.specs.declared.path.Path.{Path}
-use Rattle.packets.specs.declared.reading.Reading.{Reading}
-use Rattle.packets.specs.declared.reading.Reading.TheVariants.{Refused, Time, Command}
+use Rattle.std.specs.Prelude.{Result, Ok, Err}
+use Rattle.packets.specs.declared.reading.Packet.{Packet}
+use Rattle.packets.specs.declared.reading.Packet.TheVariants.{Time, Command}
+use Rattle.packets.specs.declared.reading.Refusal.{Refusal}
 use Rattle.unit.specs.Fate.{byte_of, fate_number}
 use Rattle.unit.specs.Counters.{bumped_at, counter_of, total, counted_for}
 use Rattle.unit.specs.Clock.{time_code_written}
@@ -16,9 +18,9 @@ use Rattle.unit.specs.Usable.{usable, usable_unit}
 use Rattle.unit.specs.Given.{Arrived, as_read, Lent, sizes_of}
 use Rattle.unit.specs.Decide.{header_status}
 use Rattle.unit.specs.Plan.{decided_on}
-use Rattle.unit.specs.Judge.{ruling_on, outright, is_link, judged}
+use Rattle.unit.specs.Judge.{ruling_on, is_link, judged}
 use Rattle.unit.specs.Act.{stored, data_for, replied_to, field_written, changed, with_clock, with_fields, with_counters, counted_unit}
-use Rattle.unit.specs.Calls.{Outcome, acted, done_by, done, take_packet}
+use Rattle.unit.specs.Calls.{Outcome, acted, done, take_packet}
 use Rattle.unit.specs.declared.fate.Fate.{Fate}
 use Rattle.unit.specs.declared.fate.Fate.TheVariants.{Unusable, NoSuchLink}
 use Rattle.unit.specs.declared.decide.Action.{Action}
@@ -27,7 +29,6 @@ use Rattle.unit.specs.declared.decide.Plan.{Plan}
 use Rattle.unit.specs.declared.judging.Sizes.{Sizes}
 use Rattle.unit.specs.declared.judging.Ruling.{Ruling}
 use Rattle.unit.specs.declared.judging.Ruling.TheVariants.{Ends, SetsTime, Planned}
-use Rattle.unit.specs.declared.judging.Judgement.{Judgement}
 use Rattle.unit.specs.declared.unit.Unit.{Unit as TheUnit}
 
 -- ---- with other counters all is the same, but for the counters, which then are those, counted
@@ -82,19 +83,17 @@ module _ (u : TheUnit) (c : List ℕ) where
   changed_aside (WriteField address word) initiator path link = written_aside address word
 
   -- it is not judged by
-  ruling_aside : (q : Reading) (path : Path) (p : Arrived) (sizes : Sizes) → ruling_on q path (with_counters u c) p sizes ≡ ruling_on q path u p sizes
+  ruling_aside : (q : Result Packet Refusal) (p : Arrived) (sizes : Sizes) → ruling_on q (with_counters u c) p sizes ≡ ruling_on q u p sizes
   unfolding decided_on header_status
-  ruling_aside (Refused why) path p sizes = refl
-  ruling_aside Time path p sizes = refl
-  ruling_aside (Command h) path p sizes = refl
+  ruling_aside (Err why) p sizes = refl
+  ruling_aside (Ok Time) p sizes = refl
+  ruling_aside (Ok (Command k)) p sizes = refl
 
   pub judged_aside : (p : Arrived) (sizes : Sizes) → judged (with_counters u c) p sizes ≡ judged u p sizes
   unfolding judged usable usable_unit
   judged_aside p sizes =
-      let read = read_packet p.packet u.number in
-      ap (λ (r : Ruling). cond (not (usable u sizes.memory)) (outright Unusable)
-      (cond (not (is_link u p.link)) (outright NoSuchLink) (record { ruling = r; path = read.path })))
-      (ruling_aside read.reading read.path p sizes)
+      ap (λ (r : Ruling). cond (not (usable u sizes.memory)) (Ends Unusable) (cond (not (is_link u p.link)) (Ends NoSuchLink) r))
+      (ruling_aside (read_packet p.packet u.number) p sizes)
 
   module _ (bytes : List ℕ) (link : ℕ) (lent : Lent) where
     plan_aside : (plan : Plan) (h : Header) (path : Path)
@@ -109,17 +108,16 @@ module _ (u : TheUnit) (c : List ℕ) where
           reply = cond (eqb (fate_number plan.fate) 20) (replied path h (byte_of plan.status) (d i) lent.reply) lent.reply;
         }
 
-    done_aside : (ruling : Ruling) (path : Path) → done_by ruling path (with_counters u c) bytes link lent ≡ recounted c (done_by ruling path u bytes link lent)
-    done_aside (Ends fate) path = refl
-    done_aside (SetsTime t) path = refl
-    done_aside (Planned h plan) path = plan_aside plan h path
+    done_aside : (ruling : Ruling) → done ruling (with_counters u c) bytes link lent ≡ recounted c (done ruling u bytes link lent)
+    done_aside (Ends fate) = refl
+    done_aside (SetsTime t) = refl
+    done_aside (Planned k plan) = plan_aside plan k.header k.path
 
   pub counters_aside : (p : Arrived) (lent : Lent) → take_packet (with_counters u c) p lent ≡ recounted c (take_packet u p lent)
   unfolding take_packet
   counters_aside p lent =
-      let j = judged u (as_read p) (sizes_of lent) in
-      ap (λ (k : Judgement). done k (with_counters u c) (as_read p).packet p.link lent) (judged_aside (as_read p) (sizes_of lent))
-      ∙ done_aside (as_read p).packet p.link lent j.ruling j.path
+      ap (λ (k : Ruling). done k (with_counters u c) (as_read p).packet p.link lent) (judged_aside (as_read p) (sizes_of lent))
+      ∙ done_aside (as_read p).packet p.link lent (judged u (as_read p) (sizes_of lent))
 
 -- ---- counting goes in any order
 

@@ -1,6 +1,6 @@
 -- Worked examples of what is decided about a command, computed by the definitions: worked out by hand from document 01 ('Reading a packet', 'Span',
 -- 'Effects', 'Reply', 'Fields', 'Owner').
-use Rattle.std.proofs.Common.{◌≡◌, ℕ, ◌+◌, ◌*◌, ◌^◌, Bool, true, false, List, [], ◌∷◌, map, replicate, refl}
+use Rattle.std.proofs.Common.{◌≡◌, ℕ, ◌+◌, ◌*◌, ◌^◌, Bool, true, false, List, [], ◌∷◌, map, replicate, refl, None, Ok, Err}
 use Rattle.octets.proofs.Tabulate.{tabulate}
 use Rattle.packets.specs.Instruction.{kind_of}
 use Rattle.packets.specs.Path.{same_path}
@@ -9,15 +9,13 @@ use Rattle.packets.specs.declared.instruction.Kind.TheVariants.{Read, ReadModify
 use Rattle.packets.specs.declared.header.Header.{Header}
 use Rattle.packets.specs.declared.path.Path.{Path}
 use Rattle.packets.specs.declared.reading.End.TheVariants.{Eop, Eep}
+use Rattle.unit.specs.Fate.{Status}
 use Rattle.unit.specs.Windows.{holds, has_right}
 use Rattle.unit.specs.Fields.{row_of}
 use Rattle.unit.specs.Decide.{opening_status, span_size, is_authorised, span_status, is_field_length, names_fields, is_allowed, fields_status, header_status, wanted_count, data_status, data_count}
 use Rattle.unit.specs.Plan.{memory_action, field_action, reply_count}
 use Rattle.unit.specs.Act.{stored}
-use Rattle.unit.specs.declared.fate.Status.{Status}
-use Rattle.unit.specs.declared.fate.Status.TheVariants.{Success, UnusedCode, WrongKey, DataCrc, EarlyEop, TooMuchData, EndedByEep, VerifyOverrun}
-use Rattle.unit.specs.declared.fate.Status.TheVariants.{NotAuthorised, RmwLength, WrongAddress, NotOwner, NoSuchField, ReadOnlyField, PlainDeviceId}
-use Rattle.unit.specs.declared.clock.Waiting.TheVariants.{NoValue}
+use Rattle.unit.specs.declared.fate.Offence.TheVariants.{UnusedCode, WrongKey, DataCrc, EarlyEop, TooMuchData, EndedByEep, VerifyOverrun, NotAuthorised, RmwLength, WrongAddress, NotOwner, NoSuchField, ReadOnlyField, PlainDeviceId}
 use Rattle.unit.specs.declared.windows.Window.{Window}
 use Rattle.unit.specs.declared.windows.Windows.{Windows}
 use Rattle.unit.specs.declared.owner.Owner.{Owner}
@@ -77,20 +75,20 @@ opening target byte key = opening_status (header 0x01 target byte key 0 0 0) 0x2
 
 openings :
     -- the unit's key, and its address or FE
-    (opening 0x43 read 0x2A ≡ Success)
-    × (opening 0xFE read 0x2A ≡ Success)
+    (opening 0x43 read 0x2A ≡ Ok tt)
+    × (opening 0xFE read 0x2A ≡ Ok tt)
     -- 12: an address that is neither
-    × (opening 0x42 read 0x2A ≡ WrongAddress)
-    × (opening 0xFF read 0x2A ≡ WrongAddress)
-    × (opening 0x00 read 0x2A ≡ WrongAddress)
+    × (opening 0x42 read 0x2A ≡ Err WrongAddress)
+    × (opening 0xFF read 0x2A ≡ Err WrongAddress)
+    × (opening 0x00 read 0x2A ≡ Err WrongAddress)
     -- 3: another key; it goes before 12
-    × (opening 0x43 read 0x2B ≡ WrongKey)
-    × (opening 0x42 read 0x2B ≡ WrongKey)
+    × (opening 0x43 read 0x2B ≡ Err WrongKey)
+    × (opening 0x42 read 0x2B ≡ Err WrongKey)
     -- 2: code 0001, type 10, type 11; it goes before both
-    × (opening 0x43 0b01000100 0x2A ≡ UnusedCode)
-    × (opening 0x42 0b01000100 0x2B ≡ UnusedCode)
-    × (opening 0x42 0b10001100 0x2B ≡ UnusedCode)
-    × (opening 0x43 0b11001100 0x2A ≡ UnusedCode)
+    × (opening 0x43 0b01000100 0x2A ≡ Err UnusedCode)
+    × (opening 0x42 0b01000100 0x2B ≡ Err UnusedCode)
+    × (opening 0x42 0b10001100 0x2B ≡ Err UnusedCode)
+    × (opening 0x43 0b11001100 0x2A ≡ Err UnusedCode)
 unfolding opening_status kind_of
 openings = (refl, refl, refl, refl, refl, refl, refl, refl, refl, refl, refl)
 
@@ -154,16 +152,16 @@ all = windows 1 (window 0 65536 true true ∷ [])
 -- status 11, then 10, then 9
 spans :
     -- 11: RMW with L not 0, 2, 4, 6 or 8
-    (map (λ (n : ℕ). span_status all (memory rmw 0 0 n)) (0 ∷ 2 ∷ 4 ∷ 6 ∷ 8 ∷ []) ≡ replicate 5 Success)
-    × (map (λ (n : ℕ). span_status all (memory rmw 0 0 n)) (1 ∷ 3 ∷ 5 ∷ 7 ∷ 9 ∷ 10 ∷ []) ≡ replicate 6 RmwLength)
+    (map (λ (n : ℕ). span_status all (memory rmw 0 0 n)) (0 ∷ 2 ∷ 4 ∷ 6 ∷ 8 ∷ []) ≡ replicate 5 (Ok tt))
+    × (map (λ (n : ℕ). span_status all (memory rmw 0 0 n)) (1 ∷ 3 ∷ 5 ∷ 7 ∷ 9 ∷ 10 ∷ []) ≡ replicate 6 (Err RmwLength))
     -- 9: verified write with L above 1,024
-    × (map (λ (byte : ℕ). span_status all (memory byte 0 0 1024)) (verified ∷ verified_single ∷ []) ≡ Success ∷ Success ∷ [])
-    × (map (λ (byte : ℕ). span_status all (memory byte 0 0 1025)) (verified ∷ verified_single ∷ []) ≡ VerifyOverrun ∷ VerifyOverrun ∷ [])
-    × (map (λ (byte : ℕ). span_status all (memory byte 0 0 1025)) (write ∷ write_single ∷ read ∷ read_single ∷ []) ≡ replicate 4 Success)
+    × (map (λ (byte : ℕ). span_status all (memory byte 0 0 1024)) (verified ∷ verified_single ∷ []) ≡ Ok tt ∷ Ok tt ∷ [])
+    × (map (λ (byte : ℕ). span_status all (memory byte 0 0 1025)) (verified ∷ verified_single ∷ []) ≡ Err VerifyOverrun ∷ Err VerifyOverrun ∷ [])
+    × (map (λ (byte : ℕ). span_status all (memory byte 0 0 1025)) (write ∷ write_single ∷ read ∷ read_single ∷ []) ≡ replicate 4 (Ok tt))
     -- 10; and 11 goes before it, 9 behind it
-    × (map (λ (byte : ℕ). span_status all (memory byte 1 0 8)) (read ∷ write ∷ verified ∷ rmw ∷ []) ≡ replicate 4 NotAuthorised)
-    × (span_status all (memory rmw 1 0 3) ≡ RmwLength)
-    × (span_status all (memory verified 1 0 1025) ≡ NotAuthorised)
+    × (map (λ (byte : ℕ). span_status all (memory byte 1 0 8)) (read ∷ write ∷ verified ∷ rmw ∷ []) ≡ replicate 4 (Err NotAuthorised))
+    × (span_status all (memory rmw 1 0 3) ≡ Err RmwLength)
+    × (span_status all (memory verified 1 0 1025) ≡ Err NotAuthorised)
 unfolding span_status is_authorised span_size kind_of
 spans = (refl, refl, refl, refl, refl, refl, refl, refl)
 
@@ -178,17 +176,17 @@ wanted = (refl, refl)
 
 -- where nine bytes are wanted, and where none is: by how many came, and by their CRC
 data_statuses :
-    (data_status 9 0 9 Eop ≡ Success)
-    × (data_status 0 0 0 Eop ≡ Success)
+    (data_status 9 0 9 Eop ≡ Ok tt)
+    × (data_status 0 0 0 Eop ≡ Ok tt)
     -- 7: whatever else is wrong
-    × (map (λ (k : ℕ). data_status k 1 9 Eep) (8 ∷ 9 ∷ 10 ∷ []) ≡ replicate 3 EndedByEep)
-    × (data_status 9 0 9 Eep ≡ EndedByEep)
-    × (data_status 0 0 0 Eep ≡ EndedByEep)
+    × (map (λ (k : ℕ). data_status k 1 9 Eep) (8 ∷ 9 ∷ 10 ∷ []) ≡ replicate 3 (Err EndedByEep))
+    × (data_status 9 0 9 Eep ≡ Err EndedByEep)
+    × (data_status 0 0 0 Eep ≡ Err EndedByEep)
     -- 5: fewer; 6: more, so also behind a read; both go before 4
-    × (map (λ (k : ℕ). data_status k 1 9 Eop) (0 ∷ 8 ∷ 10 ∷ []) ≡ EarlyEop ∷ EarlyEop ∷ TooMuchData ∷ [])
-    × (data_status 1 0 0 Eop ≡ TooMuchData)
+    × (map (λ (k : ℕ). data_status k 1 9 Eop) (0 ∷ 8 ∷ 10 ∷ []) ≡ Err EarlyEop ∷ Err EarlyEop ∷ Err TooMuchData ∷ [])
+    × (data_status 1 0 0 Eop ≡ Err TooMuchData)
     -- 4
-    × (data_status 9 1 9 Eop ≡ DataCrc)
+    × (data_status 9 1 9 Eop ≡ Err DataCrc)
 unfolding data_status
 data_statuses = (refl, refl, refl, refl, refl, refl, refl, refl)
 
@@ -204,19 +202,19 @@ effect byte status k = memory_action (memory byte 0 4 8) status 16 k
 
 effects :
     -- read: L bytes from A, or L times the byte at A
-    (effect read Success 0 ≡ ReadMemory 4 8)
-    × (effect read_single Success 0 ≡ RepeatByte 4 8)
-    × (effect read TooMuchData 1 ≡ Nothing)
+    (effect read (Ok tt) 0 ≡ ReadMemory 4 8)
+    × (effect read_single (Ok tt) 0 ≡ RepeatByte 4 8)
+    × (effect read (Err TooMuchData) 1 ≡ Nothing)
     -- RMW: half of L, and only with status 0
-    × (effect rmw Success 9 ≡ Combine 4 16 4)
-    × (effect rmw DataCrc 9 ≡ Nothing)
+    × (effect rmw (Ok tt) 9 ≡ Combine 4 16 4)
+    × (effect rmw (Err DataCrc) 9 ≡ Nothing)
     -- write: the first min(k, L), upward or at A; with verify only with status 0
-    × (effect verified Success 9 ≡ Store 4 16 8)
-    × (effect verified_single Success 9 ≡ StoreLast 4 16 8)
-    × (map (λ (status : Status). effect verified status 9) (DataCrc ∷ EarlyEop ∷ TooMuchData ∷ EndedByEep ∷ []) ≡ replicate 4 Nothing)
-    × (map (λ (status : Status). effect write status 9) (Success ∷ DataCrc ∷ EndedByEep ∷ []) ≡ replicate 3 (Store 4 16 8))
-    × (effect write EarlyEop 5 ≡ Store 4 16 5)
-    × (effect write_single TooMuchData 10 ≡ StoreLast 4 16 8)
+    × (effect verified (Ok tt) 9 ≡ Store 4 16 8)
+    × (effect verified_single (Ok tt) 9 ≡ StoreLast 4 16 8)
+    × (map (λ (status : Status). effect verified status 9) (Err DataCrc ∷ Err EarlyEop ∷ Err TooMuchData ∷ Err EndedByEep ∷ []) ≡ replicate 4 Nothing)
+    × (map (λ (status : Status). effect write status 9) (Ok tt ∷ Err DataCrc ∷ Err EndedByEep ∷ []) ≡ replicate 3 (Store 4 16 8))
+    × (effect write (Err EarlyEop) 5 ≡ Store 4 16 5)
+    × (effect write_single (Err TooMuchData) 10 ≡ StoreLast 4 16 8)
 unfolding kind_of
 effects = (refl, refl, refl, refl, refl, refl, refl, refl, refl, refl, refl)
 
@@ -235,10 +233,10 @@ row = 0xEE ∷ 0x01 ∷ 0x02 ∷ 0x03 ∷ 0x04 ∷ 0x05 ∷ 0x06 ∷ 0x07 ∷ 0x
 
 -- a command to fields, whose data begin behind the first byte: a read of L/4; a swap, new value first; a write of the word
 field_effects :
-    (field_action (field read 0 0x80000 16) Success row 1 ≡ ReadFields 0x80000 4)
-    × (field_action (field rmw 0 0x08 8) Success row 1 ≡ Swap 0x01020304 0x05060708)
-    × (field_action (field verified 0 0x80003 4) Success row 1 ≡ WriteField 0x80003 0x01020304)
-    × (field_action (field verified 0 0x80003 4) DataCrc row 1 ≡ Nothing)
+    (field_action (field read 0 0x80000 16) (Ok tt) row 1 ≡ ReadFields 0x80000 4)
+    × (field_action (field rmw 0 0x08 8) (Ok tt) row 1 ≡ Swap 0x01020304 0x05060708)
+    × (field_action (field verified 0 0x80003 4) (Ok tt) row 1 ≡ WriteField 0x80003 0x01020304)
+    × (field_action (field verified 0 0x80003 4) (Err DataCrc) row 1 ≡ Nothing)
 unfolding kind_of
 field_effects = (refl, refl, refl, refl)
 
@@ -296,37 +294,37 @@ stranger byte address size = fields_status (claim 5) (field byte 0 address size)
 -- status 10, then F1, then F2 and F3, then F0
 refusals :
     -- 10 before F1
-    (stranger read 0x0B 6 ≡ NotAuthorised)
+    (stranger read 0x0B 6 ≡ Err NotAuthorised)
     -- F1 before F2, also where the lowest field is read-only
-    × (stranger verified 0x0A 8 ≡ NoSuchField)
-    × (stranger rmw 0x0B 8 ≡ NoSuchField)
+    × (stranger verified 0x0A 8 ≡ Err NoSuchField)
+    × (stranger rmw 0x0B 8 ≡ Err NoSuchField)
     -- F2 and F3 before F0
-    × (stranger verified 0x00 4 ≡ ReadOnlyField)
-    × (stranger rmw 0x80000 8 ≡ ReadOnlyField)
-    × (stranger verified 0x08 4 ≡ PlainDeviceId)
+    × (stranger verified 0x00 4 ≡ Err ReadOnlyField)
+    × (stranger rmw 0x80000 8 ≡ Err ReadOnlyField)
+    × (stranger verified 0x08 4 ≡ Err PlainDeviceId)
     -- F0
-    × (stranger verified 0x80003 4 ≡ NotOwner)
-    × (stranger rmw 0x08 8 ≡ NotOwner)
+    × (stranger verified 0x80003 4 ≡ Err NotOwner)
+    × (stranger rmw 0x08 8 ≡ Err NotOwner)
     -- anyone may read
-    × (stranger read 0x00 44 ≡ Success)
+    × (stranger read 0x00 44 ≡ Ok tt)
 unfolding fields_status names_fields row_of kind_of same_path
 refusals = (refl, refl, refl, refl, refl, refl, refl, refl, refl)
 
 -- ---- both protocols: what each asks for first
 
 abbrev first : Header → Status
-first h = header_status (unit 0xF0 4 all 0 (claim 5) (clock 0 0 NoValue)) h (zeros 0) 1
+first h = header_status (unit 0xF0 4 all 0 (claim 5) (clock 0 0 None)) h (zeros 0) 1
 
 protocols :
     -- RMAP: the unit's key and address; 3 and 12 go before 11
-    (first (header 0x01 0x43 rmw 0x2A 0 0 3) ≡ RmwLength)
-    × (first (header 0x01 0x43 rmw 0x00 0 0 3) ≡ WrongKey)
-    × (first (header 0x01 0x42 rmw 0x2A 0 0 3) ≡ WrongAddress)
+    (first (header 0x01 0x43 rmw 0x2A 0 0 3) ≡ Err RmwLength)
+    × (first (header 0x01 0x43 rmw 0x00 0 0 3) ≡ Err WrongKey)
+    × (first (header 0x01 0x42 rmw 0x2A 0 0 3) ≡ Err WrongAddress)
     -- plug-and-play: key 00 and address FE, and not the unit's; 2, 3 and 12 go before 10
-    × (first (header 0x03 0xFE read 0x00 0 0 4) ≡ Success)
-    × (first (header 0x03 0xFE read 0x00 0 0 3) ≡ NotAuthorised)
-    × (first (header 0x03 0xFE read 0x2A 0 0 3) ≡ WrongKey)
-    × (first (header 0x03 0x43 read 0x00 0 0 3) ≡ WrongAddress)
-    × (first (header 0x03 0x43 0b01000100 0x2A 0 0 3) ≡ UnusedCode)
+    × (first (header 0x03 0xFE read 0x00 0 0 4) ≡ Ok tt)
+    × (first (header 0x03 0xFE read 0x00 0 0 3) ≡ Err NotAuthorised)
+    × (first (header 0x03 0xFE read 0x2A 0 0 3) ≡ Err WrongKey)
+    × (first (header 0x03 0x43 read 0x00 0 0 3) ≡ Err WrongAddress)
+    × (first (header 0x03 0x43 0b01000100 0x2A 0 0 3) ≡ Err UnusedCode)
 unfolding header_status opening_status span_status is_authorised span_size fields_status names_fields row_of kind_of same_path
 protocols = (refl, refl, refl, refl, refl, refl, refl, refl)

@@ -1,5 +1,5 @@
 -- Laws of decisions: what a command that got past the checks has shown.
-use Rattle.std.proofs.Common.{◌≡◌, ℕ, ◌+◌, ◌-◌, ◌/◌, ◌%◌, ◌^◌, ◌≤◌, min, Bool, true, false, cond, not, ◌&&◌, ◌||◌, eqb, ltb, leb, ◌⊎◌, List, [], ◌∷◌, length, drop, sym, refl, ap, ◌∙◌, inl, inr, ⊎_elim, le_of_eq, lt_of_not-le, arith, length-drop, take_all, ltb-false, lt-ltb, eq-eqb, ne_eqb, eqb-true, leb-false, leb-true}
+use Rattle.std.proofs.Common.{◌≡◌, ℕ, ◌+◌, ◌-◌, ◌/◌, ◌%◌, ◌^◌, ◌≤◌, min, Bool, true, false, cond, not, ◌&&◌, ◌||◌, eqb, ltb, leb, ◌⊎◌, List, [], ◌∷◌, length, drop, sym, refl, ap, ◌∙◌, inl, inr, ⊎_elim, le_of_eq, lt_of_not-le, arith, length-drop, take_all, ltb-false, lt-ltb, eq-eqb, ne_eqb, eqb-true, leb-false, leb-true, Option, Some, None, Ok, Err}
 use mathlib.Core.Bool.{false≢true}
 use borrow.Author.Tests.{not-false}
 use lib.Arith.{lt_of_le-ne}
@@ -16,7 +16,7 @@ use Rattle.packets.specs.declared.header.Header.{Header}
 use Rattle.packets.specs.declared.path.Path.{Path}
 use Rattle.packets.specs.declared.reading.End.{End}
 use Rattle.unit.specs.Some.{some}
-use Rattle.unit.specs.Fate.{byte_of, is_success, or_else}
+use Rattle.unit.specs.Fate.{Status, byte_of, is_success, or_else}
 use Rattle.unit.specs.Given.{Arrived}
 use Rattle.unit.specs.Fields.{field_of, named, is_missing, right_of, offence_of, write_offence, swap_offence}
 use Rattle.unit.specs.Decide.{opening_status, is_authorised, span_status, is_field_length, field_count, names_fields, offence_in, is_allowed, fields_status}
@@ -25,11 +25,10 @@ use Rattle.unit.specs.Granted.{WordsThere}
 use Rattle.unit.specs.Plan.{memory_action, field_action, planned_for, decided_by_data, decided_on, decided}
 use Rattle.unit.specs.declared.decide.Action.{Action}
 use Rattle.unit.specs.declared.decide.Plan.{Plan}
-use Rattle.unit.specs.declared.fate.Status.{Status}
-use Rattle.unit.specs.declared.fate.Status.TheVariants.{Success, UnusedCode, WrongKey, DataCrc, EarlyEop, TooMuchData, EndedByEep, VerifyOverrun}
-use Rattle.unit.specs.declared.fate.Status.TheVariants.{NotAuthorised, RmwLength, WrongAddress, NotOwner, NoSuchField}
+use Rattle.unit.specs.declared.fate.Offence.TheVariants.{UnusedCode, WrongKey, DataCrc, EarlyEop, TooMuchData, EndedByEep, VerifyOverrun}
+use Rattle.unit.specs.declared.fate.Offence.TheVariants.{NotAuthorised, RmwLength, WrongAddress, NotOwner, NoSuchField}
 use Rattle.unit.specs.declared.fields.Right.{Right}
-use Rattle.unit.specs.declared.fields.Right.TheVariants.{Missing, ReadOnly, Swapped, Written}
+use Rattle.unit.specs.declared.fields.Right.TheVariants.{ReadOnly, Swapped, Written}
 use Rattle.unit.specs.declared.windows.Windows.{Windows}
 use Rattle.unit.specs.declared.owner.Owner.{Owner}
 use Rattle.unit.specs.declared.unit.Unit.{Unit as TheUnit}
@@ -111,9 +110,9 @@ opening_passed : (h : Header) (key logical : ℕ) → is_success (opening_status
 unfolding opening_status
 opening_passed h key logical s unit all =
     let code = not (eqb (type_of h.instruction) 1) || is_unused (kind_in h) in
-    let elsewhere = cond (not (eqb h.target logical) && not (eqb h.target 0xFE)) WrongAddress Success in
-    let one = passed code UnusedCode (cond (not (eqb h.key key)) WrongKey elsewhere) refl s in
-    let two = passed (not (eqb h.key key)) WrongKey elsewhere refl one.1 in
+    let elsewhere = cond (not (eqb h.target logical) && not (eqb h.target 0xFE)) (Err WrongAddress) (Ok tt) in
+    let one = passed code (Err UnusedCode) (cond (not (eqb h.key key)) (Err WrongKey) elsewhere) refl s in
+    let two = passed (not (eqb h.key key)) (Err WrongKey) elsewhere refl one.1 in
     false≢true (rw (ne_eqb h.target logical unit, ne_eqb h.target 0xFE all) at two.1)
 
 pub addressed : (u : TheUnit) (h : Header) (path : Path) (link : ℕ) → is_success (header_status u h path link) ≡ true
@@ -127,10 +126,10 @@ pub span_passed : (w : Windows) (h : Header) → is_success (span_status w h) �
 unfolding span_status
 span_passed w h s =
     let i = h.instruction in
-    let last = cond (is_write i && is_verified i && ltb 1024 h.length) VerifyOverrun Success in
-    let first = passed (is_rmw (kind_in h) && (ltb 8 h.length || not (eqb (h.length % 2) 0))) RmwLength
-    (cond (not (is_authorised w h)) NotAuthorised last) refl s in
-    (first.0, not-false (is_authorised w h) (passed (not (is_authorised w h)) NotAuthorised last refl first.1).0)
+    let last = cond (is_write i && is_verified i && ltb 1024 h.length) (Err VerifyOverrun) (Ok tt) in
+    let first = passed (is_rmw (kind_in h) && (ltb 8 h.length || not (eqb (h.length % 2) 0))) (Err RmwLength)
+    (cond (not (is_authorised w h)) (Err NotAuthorised) last) refl s in
+    (first.0, not-false (is_authorised w h) (passed (not (is_authorised w h)) (Err NotAuthorised) last refl first.1).0)
 
 -- fields that passed are named as they must be, are in our table, offend nothing, and are the sender's to change
 pub named_passed : (o : Owner) (h : Header) (path : Path) (link : ℕ) → is_success (fields_status o h path link) ≡ true
@@ -144,11 +143,11 @@ named_passed o h path link s =
     let missing = some is_missing (named h.address n) in
     let offence = offence_in (kind_in h) h.address n in
     let allowed = is_allowed (kind_in h) o h.initiator path link in
-    let last = cond (not allowed) NotOwner Success in
-    let one = passed (not (names_fields h)) NotAuthorised (cond missing NoSuchField (or_else offence last)) refl s in
-    let two = passed missing NoSuchField (or_else offence last) refl one.1 in
+    let last = cond (not allowed) (Err NotOwner) (Ok tt) in
+    let one = passed (not (names_fields h)) (Err NotAuthorised) (cond missing (Err NoSuchField) (or_else offence last)) refl s in
+    let two = passed missing (Err NoSuchField) (or_else offence last) refl one.1 in
     let three = or_else_law offence last two.1 in
-    let four = passed (not allowed) NotOwner Success refl three.1 in
+    let four = passed (not allowed) (Err NotOwner) (Ok tt) refl three.1 in
     (not-false (names_fields h) one.0, two.0, three.0, not-false allowed four.0)
 
 pub names_length : (h : Header) → names_fields h ≡ true → is_field_length (kind_in h) h.length ≡ true
@@ -180,17 +179,17 @@ one_or_other : (t : Bool) (s r : Status) → Header's s → Header's r → Heade
 one_or_other true s r x y = x
 one_or_other false s r x y = y
 
-write_offence_law : (right : Right) → Header's (offence_of right)
-write_offence_law Missing = refl
-write_offence_law ReadOnly = refl
-write_offence_law Swapped = refl
-write_offence_law Written = refl
+write_offence_law : (right : Option Right) → Header's (offence_of right)
+write_offence_law None = refl
+write_offence_law (Some ReadOnly) = refl
+write_offence_law (Some Swapped) = refl
+write_offence_law (Some Written) = refl
 
-swap_offence_law : (right : Right) → Header's (swap_offence right)
-swap_offence_law Missing = refl
-swap_offence_law ReadOnly = refl
-swap_offence_law Swapped = refl
-swap_offence_law Written = refl
+swap_offence_law : (right : Option Right) → Header's (swap_offence right)
+swap_offence_law None = refl
+swap_offence_law (Some ReadOnly) = refl
+swap_offence_law (Some Swapped) = refl
+swap_offence_law (Some Written) = refl
 
 write_offences : (l : List ℕ) → Header's (write_offence l)
 write_offences [] = refl
@@ -204,7 +203,7 @@ offences Read address count = refl
 offences ReadModifyWrite address count = swap_offence_law (right_of address)
 offences Write address count = write_offences (named address count)
 
-three_checks : (a b c : Bool) (x y z : Status) → Header's x → Header's y → Header's z → Header's (cond a x (cond b y (cond c z Success)))
+three_checks : (a b c : Bool) (x y z : Status) → Header's x → Header's y → Header's z → Header's (cond a x (cond b y (cond c z (Ok tt))))
 three_checks true b c x y z p q r = p
 three_checks false true c x y z p q r = q
 three_checks false false true x y z p q r = r
@@ -214,13 +213,13 @@ opening_gives : (h : Header) (key logical : ℕ) → Header's (opening_status h 
 unfolding opening_status
 opening_gives h key logical =
     three_checks (not (eqb (type_of h.instruction) 1) || is_unused (kind_in h)) (not (eqb h.key key))
-    (not (eqb h.target logical) && not (eqb h.target 0xFE)) UnusedCode WrongKey WrongAddress refl refl refl
+    (not (eqb h.target logical) && not (eqb h.target 0xFE)) (Err UnusedCode) (Err WrongKey) (Err WrongAddress) refl refl refl
 
 span_gives : (w : Windows) (h : Header) → Header's (span_status w h)
 unfolding span_status
 span_gives w h =
     three_checks (is_rmw (kind_in h) && (ltb 8 h.length || not (eqb (h.length % 2) 0))) (not (is_authorised w h))
-    (is_write h.instruction && is_verified h.instruction && ltb 1024 h.length) RmwLength NotAuthorised VerifyOverrun refl refl refl
+    (is_write h.instruction && is_verified h.instruction && ltb 1024 h.length) (Err RmwLength) (Err NotAuthorised) (Err VerifyOverrun) refl refl refl
 
 fields_give : (o : Owner) (h : Header) (path : Path) (link : ℕ) → Header's (fields_status o h path link)
 unfolding fields_status
@@ -229,11 +228,11 @@ fields_give o h path link =
     go (not (names_fields h)) (some is_missing (named h.address n)) (not (is_allowed (kind_in h) o h.initiator path link))
     (offence_in (kind_in h) h.address n) (offences (kind_in h) h.address n)
   where
-    go : (a b c : Bool) (x : Status) → Header's x → Header's (cond a NotAuthorised (cond b NoSuchField (or_else x (cond c NotOwner Success))))
+    go : (a b c : Bool) (x : Status) → Header's x → Header's (cond a (Err NotAuthorised) (cond b (Err NoSuchField) (or_else x (cond c (Err NotOwner) (Ok tt)))))
     go true b c x p = refl
     go false true c x p = refl
-    go false false true x p = one_or_other (is_success x) NotOwner x refl p
-    go false false false x p = one_or_other (is_success x) Success x refl p
+    go false false true x p = one_or_other (is_success x) (Err NotOwner) x refl p
+    go false false false x p = one_or_other (is_success x) (Ok tt) x refl p
 
 pub header_gives : (u : TheUnit) (h : Header) (path : Path) (link : ℕ) → some (eqb (byte_of (header_status u h path link))) (4 ∷ 5 ∷ 6 ∷ 7 ∷ []) ≡ false
 unfolding header_status
@@ -255,23 +254,23 @@ pub data_passed : (count sum wanted : ℕ) (end : End) → is_success (data_stat
     → (is_eop end ≡ true) × (count ≡ wanted) × (sum ≡ 0)
 unfolding data_status
 data_passed count sum wanted end s =
-    let last = cond (not (eqb sum 0)) DataCrc Success in
-    let more = cond (ltb wanted count) TooMuchData last in
-    let one = passed (not (is_eop end)) EndedByEep (cond (ltb count wanted) EarlyEop more) refl s in
-    let two = passed (ltb count wanted) EarlyEop more refl one.1 in
-    let three = passed (ltb wanted count) TooMuchData last refl two.1 in
-    let four = passed (not (eqb sum 0)) DataCrc Success refl three.1 in
+    let last = cond (not (eqb sum 0)) (Err DataCrc) (Ok tt) in
+    let more = cond (ltb wanted count) (Err TooMuchData) last in
+    let one = passed (not (is_eop end)) (Err EndedByEep) (cond (ltb count wanted) (Err EarlyEop) more) refl s in
+    let two = passed (ltb count wanted) (Err EarlyEop) more refl one.1 in
+    let three = passed (ltb wanted count) (Err TooMuchData) last refl two.1 in
+    let four = passed (not (eqb sum 0)) (Err DataCrc) (Ok tt) refl three.1 in
     let a = ltb-false count wanted two.0 in
     let b = ltb-false wanted count three.0 in
     (not-false (is_eop end) one.0, omega (arith, a, b), eqb-true sum 0 (not-false (eqb sum 0) four.0))
 
 -- they give 0, 4, 5, 6 or 7
-pub data_is : (P : Status → Type 0) (count sum wanted : ℕ) (end : End) → P EndedByEep → P EarlyEop → P TooMuchData → P DataCrc → P Success
+pub data_is : (P : Status → Type 0) (count sum wanted : ℕ) (end : End) → P (Err EndedByEep) → P (Err EarlyEop) → P (Err TooMuchData) → P (Err DataCrc) → P (Ok tt)
     → P (data_status count sum wanted end)
 unfolding data_status
 data_is P count sum wanted end seven five six four zero = go (is_eop end) (ltb count wanted) (ltb wanted count) (eqb sum 0)
   where
-    go : (a b c d : Bool) → P (cond (not a) EndedByEep (cond b EarlyEop (cond c TooMuchData (cond (not d) DataCrc Success))))
+    go : (a b c d : Bool) → P (cond (not a) (Err EndedByEep) (cond b (Err EarlyEop) (cond c (Err TooMuchData) (cond (not d) (Err DataCrc) (Ok tt)))))
     go false b c d = seven
     go true true c d = five
     go true false true d = six

@@ -1,11 +1,11 @@
 -- Of what the worked examples are made. What is not given is 0, or the bench's.
-use Rattle.std.proofs.Common.{ℕ, Bool, List, replicate}
+use Rattle.std.proofs.Common.{ℕ, Bool, List, replicate, Option}
 use Rattle.packets.specs.declared.path.Path.{Path}
 use Rattle.unit.specs.declared.windows.Window.{Window}
 use Rattle.unit.specs.declared.windows.Windows.{Windows}
 use Rattle.unit.specs.declared.owner.Owner.{Owner}
+use Rattle.unit.specs.declared.clock.Elapsed.{Elapsed}
 use Rattle.unit.specs.declared.clock.Clock.{Clock}
-use Rattle.unit.specs.declared.clock.Waiting.{Waiting}
 use Rattle.unit.specs.declared.fields.Fields.{Fields}
 use Rattle.unit.specs.declared.unit.Unit.{Unit as TheUnit}
 
@@ -24,10 +24,10 @@ abbrev pub owner : ℕ → ℕ → ℕ → ℕ → Owner
 owner device initiator count link = record { device = device; initiator = initiator; path = zeros count; link = link }
 
 -- last Time-Code, ET with its epoch code, what waits; and with the epoch code 9F
-abbrev pub clock_of : ℕ → ℕ → ℕ → Waiting → Clock
+abbrev pub clock_of : ℕ → ℕ → ℕ → Option Elapsed → Clock
 clock_of last et epoch waiting = record { last = last; elapsed = record { value = et; epoch = epoch }; waiting = waiting }
 
-abbrev pub clock : ℕ → ℕ → Waiting → Clock
+abbrev pub clock : ℕ → ℕ → Option Elapsed → Clock
 clock last et waiting = clock_of last et 0x9F waiting
 
 -- fields of which no two are the same, with a divider. Rate range: maximum 10 in the high half, minimum 4 in the low half

@@ -1,11 +1,13 @@
 -- Laws of statuses and fates.
-use Rattle.std.proofs.Common.{◌≡◌, ◌≤◌, Bool, true, false, cond, sym, refl, ◌∙◌, arith}
+use Rattle.std.proofs.Common.{◌≡◌, ◌≤◌, Bool, true, false, cond, eqb, sym, refl, ◌∙◌, arith, Ok, Err}
 use mathlib.Core.Bool.{false≢true}
 use Rattle.packets.specs.Reading.{number_of}
 use Rattle.packets.specs.declared.reading.Refusal.{Refusal}
 use Rattle.packets.specs.declared.reading.Refusal.TheVariants.{Incomplete, UnknownProtocol, ExtendedProtocol, Reply, HeaderCrc}
-use Rattle.unit.specs.Fate.{is_success, or_else, fate_number}
-use Rattle.unit.specs.declared.fate.Status.{Status}
+use Rattle.unit.specs.Fate.{Status, offence_byte, byte_of, is_success, or_else, fate_number}
+use Rattle.unit.specs.declared.fate.Offence.{Offence}
+use Rattle.unit.specs.declared.fate.Offence.TheVariants.{UnusedCode, WrongKey, DataCrc, EarlyEop, TooMuchData, EndedByEep, VerifyOverrun}
+use Rattle.unit.specs.declared.fate.Offence.TheVariants.{NotAuthorised, RmwLength, WrongAddress, NotOwner, NoSuchField, ReadOnlyField, PlainDeviceId}
 use Rattle.unit.specs.declared.fate.Fate.{Fate}
 use Rattle.unit.specs.declared.fate.Fate.TheVariants.{TimeChanged, Unusable, NoSuchLink, NoRoom, Unread, TimeThrownAway, NotObeyed, Obeyed, TimeTaken, Replied}
 
@@ -29,6 +31,28 @@ fate_most (NotObeyed s) = omega arith
 fate_most Obeyed = omega arith
 fate_most TimeTaken = omega arith
 fate_most (Replied s) = omega arith
+
+-- ---- the status 0 is success's alone
+
+offends : (offence : Offence) → eqb (offence_byte offence) 0 ≡ false
+offends UnusedCode = refl
+offends WrongKey = refl
+offends DataCrc = refl
+offends EarlyEop = refl
+offends TooMuchData = refl
+offends EndedByEep = refl
+offends VerifyOverrun = refl
+offends NotAuthorised = refl
+offends RmwLength = refl
+offends WrongAddress = refl
+offends NotOwner = refl
+offends NoSuchField = refl
+offends ReadOnlyField = refl
+offends PlainDeviceId = refl
+
+pub success_byte : (s : Status) → is_success s ≡ eqb (byte_of s) 0
+success_byte (Ok done) = refl
+success_byte (Err offence) = sym (offends offence)
 
 -- ---- a check that refuses, and the checks behind it
 

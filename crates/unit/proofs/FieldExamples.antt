@@ -1,10 +1,9 @@
 -- Worked examples of fields, computed by the definitions: worked out by hand from document 01 ('Fields') and 000's Table 5-6.
-use Rattle.std.proofs.Common.{◌≡◌, ℕ, true, false, List, [], ◌∷◌, ◌++◌, map, get_or, replicate, refl}
+use Rattle.std.proofs.Common.{◌≡◌, ℕ, true, false, List, [], ◌∷◌, ◌++◌, map, get_or, replicate, refl, None, Ok, Err}
 use Rattle.unit.specs.Clock.{time_code_written}
 use Rattle.unit.specs.Fields.{named, row_of, is_missing, right_of, offence_of, write_offence, swap_offence, link_information, values_of, field_bytes, divider_written}
 use Rattle.unit.specs.Act.{data_for}
-use Rattle.unit.specs.declared.fate.Status.TheVariants.{Success, ReadOnlyField, PlainDeviceId}
-use Rattle.unit.specs.declared.clock.Waiting.TheVariants.{NoValue}
+use Rattle.unit.specs.declared.fate.Offence.TheVariants.{ReadOnlyField, PlainDeviceId}
 use Rattle.unit.specs.declared.owner.Owner.{Owner}
 use Rattle.unit.specs.declared.decide.Action.TheVariants.{ReadFields}
 use Rattle.unit.proofs.ExampleParts.{windows, owner, clock, fields, unit}
@@ -41,7 +40,7 @@ unfolding values_of link_information row_of
 in_order = refl
 
 -- the Time-Code counter reads the unit's last Time-Code
-last_code : data_for (ReadFields 0x80000 1) (unit 0xF0 4 (windows 0 []) 0 (owner 0 0 0 0) (clock 0x2B 0 NoValue)) 1 [] ≡ 0x00 ∷ 0x00 ∷ 0x00 ∷ 0x2B ∷ []
+last_code : data_for (ReadFields 0x80000 1) (unit 0xF0 4 (windows 0 []) 0 (owner 0 0 0 0) (clock 0x2B 0 None)) 1 [] ≡ 0x00 ∷ 0x00 ∷ 0x00 ∷ 0x2B ∷ []
 unfolding data_for values_of link_information row_of
 last_code = refl
 
@@ -62,17 +61,17 @@ not_there = refl
 
 -- a plain write: F3 at Device ID, none at Time-Code counter and divider, F2 at the others
 write_offends : map (λ (a : ℕ). offence_of (right_of a)) ours
-    ≡ replicate 8 ReadOnlyField ++ (PlainDeviceId ∷ ReadOnlyField ∷ ReadOnlyField ∷ Success ∷ ReadOnlyField ∷ ReadOnlyField ∷ Success ∷ [])
+    ≡ replicate 8 (Err ReadOnlyField) ++ (Err PlainDeviceId ∷ Err ReadOnlyField ∷ Err ReadOnlyField ∷ Ok tt ∷ Err ReadOnlyField ∷ Err ReadOnlyField ∷ Ok tt ∷ [])
 unfolding row_of
 write_offends = refl
 
 -- the lowest that offends decides: Time-Code counter and base rate, rate range and divider
-lowest : map (λ (a : ℕ). write_offence (named a 2)) (0x80000 ∷ 0x80002 ∷ []) ≡ ReadOnlyField ∷ ReadOnlyField ∷ []
+lowest : map (λ (a : ℕ). write_offence (named a 2)) (0x80000 ∷ 0x80002 ∷ []) ≡ Err ReadOnlyField ∷ Err ReadOnlyField ∷ []
 unfolding row_of
 lowest = refl
 
 -- a swap: F2 at any but Device ID
-swap_offends : map (λ (a : ℕ). swap_offence (right_of a)) ours ≡ replicate 8 ReadOnlyField ++ (Success ∷ replicate 6 ReadOnlyField)
+swap_offends : map (λ (a : ℕ). swap_offence (right_of a)) ours ≡ replicate 8 (Err ReadOnlyField) ++ (Ok tt ∷ replicate 6 (Err ReadOnlyField))
 unfolding row_of
 swap_offends = refl
 
@@ -101,7 +100,7 @@ address_lengths = refl
 -- ---- what is written
 
 -- Time-Code counter, last Time-Code 5: a whole word of 0 resets it, a word with one half of 0 does not
-counters : map (λ (word : ℕ). (time_code_written (clock 5 0 NoValue) word).last) (0 ∷ 1 ∷ 0x10000 ∷ []) ≡ 0 ∷ 5 ∷ 5 ∷ []
+counters : map (λ (word : ℕ). (time_code_written (clock 5 0 None) word).last) (0 ∷ 1 ∷ 0x10000 ∷ []) ≡ 0 ∷ 5 ∷ 5 ∷ []
 counters = refl
 
 -- divider, from 4 to 10 hexadecimal: below the minimum, at it, at the maximum, above it; the high half of the word does not count

@@ -1,9 +1,11 @@
 -- Laws of fields.
-use Rattle.std.proofs.Common.{◌≡◌, ℕ, zero, suc, ◌+◌, ◌*◌, ◌/◌, ◌^◌, ◌<◌, ◌≤◌, Bool, true, false, cond, ◌&&◌, ◌||◌, eqb, ltb, leb, ◌⊎◌, List, [], ◌∷◌, ◌++◌, length, get_or, take, drop, sym, refl, ap, ◌∙◌, inl, inr, append_assoc, append-nil, add-zero, add-one, arith, length-append, drop_of_length-le, drop-cons, ltb-true, eqb-true, leb-true}
+use Rattle.std.proofs.Common.{◌≡◌, ℕ, zero, suc, ◌+◌, ◌*◌, ◌/◌, ◌^◌, ◌<◌, ◌≤◌, Bool, true, false, cond, ◌&&◌, ◌||◌, eqb, ltb, leb, ◌⊎◌, List, [], ◌∷◌, ◌++◌, length, get_or, take, drop, sym, refl, ap, ◌∙◌, inl, inr, append_assoc, append-nil, add-one, arith, length-append, drop_of_length-le, drop-cons, ltb-true, eqb-true, leb-true, Option, Some, None, is_some, unwrap_or, Ok, Err}
 use mathlib.Core.Bool.{false≢true}
+use borrow.Author.Tests.{eqb-false}
 use Rattle.packets.specs.Instruction.{code_of}
 use Rattle.packets.specs.declared.header.Header.{Header}
 use lib.Seq.{take-length}
+use Rattle.std.specs.Option.{option_eq}
 use Rattle.octets.specs.Places.{part, placed, copied}
 use Rattle.octets.specs.Numbers.{bytes_of}
 use Rattle.octets.proofs.PlaceLaws.{take_placed, copied_done, first_true, second_true}
@@ -11,12 +13,11 @@ use Rattle.octets.proofs.Tabulate.{at}
 use Rattle.packets.specs.declared.instruction.Kind.{Kind}
 use Rattle.packets.specs.declared.instruction.Kind.TheVariants.{Unused, Read, ReadModifyWrite, Write}
 use Rattle.unit.specs.Fate.{is_success, or_else}
-use Rattle.unit.specs.Fields.{above_field, field_of, named, device_id, time_code_counter, divider, missing, row_of, row_right, right_of, offence_of, write_offence, swap_offence, field_bytes}
+use Rattle.unit.specs.Fields.{above_field, field_of, named, device_id, time_code_counter, divider, missing, row_of, is_missing, row_in_table, row_right, right_of, offence_of, write_offence, swap_offence, field_bytes}
 use Rattle.packets.specs.Header.{kind_in}
 use Rattle.unit.specs.Decide.{field_count, is_field_length, names_fields}
-use Rattle.unit.specs.declared.fate.Status.{Status}
-use Rattle.unit.specs.declared.fate.Status.TheVariants.{Success}
-use Rattle.unit.specs.declared.fields.Right.TheVariants.{Missing, ReadOnly, Swapped, Written}
+use Rattle.unit.specs.declared.fate.Offence.{Offence}
+use Rattle.unit.specs.declared.fields.Right.TheVariants.{ReadOnly, Swapped, Written}
 use Rattle.unit.proofs.FateLaws.{or_else_law}
 
 -- what a command that names fields has shown
@@ -37,31 +38,19 @@ field_count_most Read n = omega arith
 field_count_most ReadModifyWrite n = omega arith
 field_count_most Write n = omega arith
 
--- ---- the fields named by an address and a count
-
-pub length_named : (a n : ℕ) → length (named a n) ≡ n
-length_named a zero = refl
-length_named a (suc n) = ap suc (length_named (a + 1) n)
-
-pub named_at : (a n i : ℕ) → i < n → get_or (named a n) i 0 ≡ a + i
-named_at a zero i h = absurd (omega arith)
-named_at a (suc n) zero h = sym (add-zero a)
-named_at a (suc n) (suc i) h = named_at (a + 1) n i (omega arith) ∙ omega arith
-
 -- ---- the lowest field that offends, from a place on
 
 module _ (l : List ℕ) where
   offence_at : (i : ℕ) → i < length l → write_offence (drop i l) ≡ or_else (offence_of (right_of (get_or l i 0))) (write_offence (drop (i + 1) l))
   offence_at i h = rw (drop-cons l i 0 h, add-one)
 
-  pub offence_found : (i : ℕ) {s : Status} → i < length l → s ≡ offence_of (right_of (get_or l i 0)) → is_success s ≡ false → write_offence (drop i l) ≡ s
-  offence_found i h e f = offence_at i h ∙ rw (← e, f)
+  pub offence_found : (i : ℕ) {offence : Offence} → i < length l → offence_of (right_of (get_or l i 0)) ≡ Err offence → write_offence (drop i l) ≡ Err offence
+  offence_found i h e = offence_at i h ∙ rw e
 
-  pub offence_none : (i : ℕ) {s : Status} → i < length l → s ≡ offence_of (right_of (get_or l i 0)) → is_success s ≡ true
-      → write_offence (drop i l) ≡ write_offence (drop (i + 1) l)
-  offence_none i h e f = offence_at i h ∙ rw (← e, f)
+  pub offence_none : (i : ℕ) → i < length l → offence_of (right_of (get_or l i 0)) ≡ Ok tt → write_offence (drop i l) ≡ write_offence (drop (i + 1) l)
+  offence_none i h e = offence_at i h ∙ rw e
 
-  pub offence_end : (i : ℕ) → length l ≤ i → write_offence (drop i l) ≡ Success
+  pub offence_end : (i : ℕ) → length l ≤ i → write_offence (drop i l) ≡ Ok tt
   offence_end i h = rw (drop_of_length-le l {i = i} h)
 
 -- ---- the bytes of fields, one field after the other
@@ -114,6 +103,39 @@ row_address a = go (eqb (above_field a) 0 && ltb (field_of a) 11) (eqb (above_fi
         (omega (arith, l), λ h. omega (arith, s, l, h), λ h. omega (arith, s, l, h))
     go false false e f = (omega arith, λ h. absurd (omega (arith, h)), λ h. absurd (omega (arith, h)))
 
+-- in our table is what has a row below 15
+pub in_table : (a : ℕ) {row : ℕ} → row_in_table a ≡ Some row → (row_of a ≡ row) × (row < missing)
+in_table a {row} e = go (eqb (row_of a) missing) refl e
+  where
+    go : (t : Bool) → eqb (row_of a) missing ≡ t → cond t None (Some (row_of a)) ≡ Some row → (row_of a ≡ row) × (row < missing)
+    go true f g = absurd (false≢true (ap is_some g))
+    go false f g =
+        let same : row_of a ≡ row = ap (λ (o : Option ℕ). unwrap_or o 0) g in
+        let other = eqb-false (row_of a) missing f in
+        (same, omega (arith, (row_address a).0, other, same))
+
+-- and what has no row there reads the row behind it
+pub row_or_missing : (a : ℕ) {row : ℕ} → row ≡ unwrap_or (row_in_table a) missing → (row ≡ row_of a) × (row < 16)
+row_or_missing a {row} e = let same = e ∙ go (eqb (row_of a) missing) refl in (same, omega (arith, same, (row_address a).0))
+  where
+    go : (t : Bool) → eqb (row_of a) missing ≡ t → unwrap_or (cond t None (Some (row_of a))) missing ≡ row_of a
+    go true f = sym (eqb-true (row_of a) missing f)
+    go false f = refl
+
+pub off_table : (a : ℕ) → row_in_table a ≡ None → row_of a ≡ missing
+off_table a e = go (eqb (row_of a) missing) refl e
+  where
+    go : (t : Bool) → eqb (row_of a) missing ≡ t → cond t None (Some (row_of a)) ≡ None → row_of a ≡ missing
+    go true f g = eqb-true (row_of a) missing f
+    go false f g = absurd (false≢true (sym (ap is_some g)))
+
+pub off_test : (a : ℕ) → option_eq eqb (row_in_table a) None ≡ is_missing a
+off_test a = go (is_missing a)
+  where
+    go : (t : Bool) → option_eq eqb (cond t None (Some (row_of a))) None ≡ t
+    go true = refl
+    go false = refl
+
 written_address : (a : ℕ) → is_success (offence_of (right_of a)) ≡ true → (a ≡ 0x80000) ⊎ (a ≡ 0x80003)
 written_address a e =
     let r = row_address a in
@@ -154,7 +176,7 @@ swapped_row address = go (eqb row missing) (eqb row device_id) (eqb row time_cod
     row : ℕ
     row = row_of address
 
-    go : (a b c : Bool) → eqb row device_id ≡ b → is_success (swap_offence (cond a Missing (cond b Swapped (cond c Written ReadOnly)))) ≡ true → row ≡ device_id
+    go : (a b c : Bool) → eqb row device_id ≡ b → is_success (swap_offence (cond a None (Some (cond b Swapped (cond c Written ReadOnly))))) ≡ true → row ≡ device_id
     go true b c e f = absurd (false≢true f)
     go false true c e f = eqb-true row device_id e
     go false false true e f = absurd (false≢true f)

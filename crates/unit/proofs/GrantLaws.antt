@@ -9,12 +9,11 @@ use Rattle.packets.specs.Reply.{carries_data, reply_length}
 use Rattle.packets.specs.declared.instruction.Kind.{Kind}
 use Rattle.packets.specs.declared.instruction.Kind.TheVariants.{Unused, Read, ReadModifyWrite, Write}
 use Rattle.packets.specs.declared.header.Header.{Header}
-use Rattle.packets.specs.Reading.{read_packet}
 use Rattle.packets.specs.declared.path.Path.{Path}
 use Rattle.packets.proofs.ReadingLaws.{header_whole}
 use Rattle.unit.specs.Some.{some}
-use Rattle.unit.specs.Fate.{byte_of, is_success, fate_number}
-use Rattle.unit.specs.Windows.{holds, has_right, meets, used}
+use Rattle.unit.specs.Fate.{byte_of, is_success, fate_number, Status}
+use Rattle.unit.specs.Windows.{holds, has_right, ends_past, allows, used}
 use Rattle.unit.specs.Fields.{field_of}
 use Rattle.unit.specs.Usable.{usable_unit, usable}
 use Rattle.unit.specs.Given.{Arrived}
@@ -23,14 +22,13 @@ use Rattle.unit.specs.Plan.{action_of, memory_action, field_action_of, reply_cou
 use Rattle.unit.specs.Judge.{judged}
 use Rattle.unit.specs.Granted.{Readable, Granted, Gatherable, Answerable, GrantedBy}
 use Rattle.unit.specs.declared.judging.Sizes.{Sizes}
-use Rattle.unit.specs.declared.fate.Status.{Status}
 use Rattle.unit.specs.declared.windows.Window.{Window}
 use Rattle.unit.specs.declared.windows.Windows.{Windows}
-use Rattle.unit.specs.declared.windows.Question.TheVariants.{EndsPast, Allows}
 use Rattle.unit.specs.declared.decide.Action.{Action}
 use Rattle.unit.specs.declared.decide.Action.TheVariants.{Nothing}
 use Rattle.unit.specs.declared.decide.Plan.{Plan}
 use Rattle.unit.specs.declared.unit.Unit.{Unit as TheUnit}
+use Rattle.unit.proofs.FateLaws.{success_byte}
 use Rattle.unit.proofs.FieldLaws.{named_last}
 use Rattle.unit.proofs.JudgeLaws.{judged_is}
 use Rattle.unit.proofs.PlanLaws.{action_is, memory_action_in, field_action_in, planned_is, decided_is, decided_has}
@@ -38,7 +36,7 @@ use Rattle.unit.proofs.DecideLaws.{writes, write_bit_is, memory_passed, fields_p
 
 -- ---- a span that a window holds is in memory, where no window ends past it
 
-holds_room : (kind : Kind) (at size n : ℕ) (w : Window) → meets (Allows kind at size) w ≡ true → meets (EndsPast n) w ≡ false → at + size ≤ n
+holds_room : (kind : Kind) (at size n : ℕ) (w : Window) → allows kind at size w ≡ true → ends_past n w ≡ false → at + size ≤ n
 holds_room kind at size n w a e =
     let held = second_true (leb w.start at) (leb (at + size) w.end) (first_true (leb w.start at && leb (at + size) w.end) (has_right kind w) a) in
     let x = leb-true (at + size) w.end held in
@@ -46,30 +44,30 @@ holds_room kind at size n w a e =
     omega (arith, x, y)
 
 pub window_room : (kind : Kind) (at size n : ℕ) (ws : List Window)
-    → some (meets (Allows kind at size)) ws ≡ true → some (meets (EndsPast n)) ws ≡ false → at + size ≤ n
+    → some (allows kind at size) ws ≡ true → some (ends_past n) ws ≡ false → at + size ≤ n
 window_room kind at size n [] a e = absurd (false≢true a)
 window_room kind at size n (w ∷ ws) a e =
-    go (meets (Allows kind at size) w) (meets (EndsPast n) w) refl refl (window_room kind at size n ws)
+    go (allows kind at size w) (ends_past n w) refl refl (window_room kind at size n ws)
   where
     Rest : Type 0
-    Rest = some (meets (Allows kind at size)) ws ≡ true → some (meets (EndsPast n)) ws ≡ false → at + size ≤ n
+    Rest = some (allows kind at size) ws ≡ true → some (ends_past n) ws ≡ false → at + size ≤ n
 
-    go : (s t : Bool) → meets (Allows kind at size) w ≡ s → meets (EndsPast n) w ≡ t → Rest → at + size ≤ n
+    go : (s t : Bool) → allows kind at size w ≡ s → ends_past n w ≡ t → Rest → at + size ≤ n
     go s true f g rest = absurd (false≢true (sym e ∙ rw g))
     go true false f g rest = holds_room kind at size n w f g
     go false false f g rest = rest (rw f at a) (rw g at e)
 
-pub usable_windows : (u : TheUnit) (n : ℕ) → usable u n ≡ true → some (meets (EndsPast n)) (used u.windows) ≡ false
+pub usable_windows : (u : TheUnit) (n : ℕ) → usable u n ≡ true → some (ends_past n) (used u.windows) ≡ false
 unfolding usable
 usable_windows u n e =
-    let past = some (meets (EndsPast n)) (used u.windows) in
+    let past = some (ends_past n) (used u.windows) in
     let all = first_true (leb 1 n && leb n 65536 && not past) (usable_unit u) e in
     not-true past (second_true (leb 1 n && leb n 65536) (not past) all)
 
 pub usable_size : (u : TheUnit) (n : ℕ) → usable u n ≡ true → n ≤ 65536
 unfolding usable
 usable_size u n e =
-    let past = some (meets (EndsPast n)) (used u.windows) in
+    let past = some (ends_past n) (used u.windows) in
     let all = first_true (leb 1 n && leb n 65536 && not past) (usable_unit u) e in
     leb-true n 65536 (second_true (leb 1 n) (leb n 65536) (first_true (leb 1 n && leb n 65536) (not past) all))
 
@@ -77,7 +75,7 @@ pub span_room : (u : TheUnit) (h : Header) (n : ℕ) → usable u n ≡ true →
 unfolding is_authorised
 span_room u h n e a =
     let ws = used u.windows in
-    let asked = some (meets (Allows (kind_in h) h.address (span_size h))) ws in
+    let asked = some (allows (kind_in h) h.address (span_size h)) ws in
     window_room (kind_in h) h.address (span_size h) n ws (second_true (eqb h.extended 0) asked a) (usable_windows u n e)
 
 -- ---- one window holds an authorised span, with the right
@@ -125,7 +123,7 @@ fields_granted Write h p from size n e r = (tt, tt)
 gatherable : (h : Header) (path : Path) (s : Status) (count room : ℕ) → is_success s ≡ true → is_write h.instruction ≡ false → count < 256 ^ 3
     → reply_length path h (byte_of s) count ≤ room → Gatherable count h path (byte_of s) room
 gatherable h path s count room e w few fits =
-    let c : carries_data h (byte_of s) ≡ true = rw w e in
+    let c : carries_data h (byte_of s) ≡ true = rw (w, ← success_byte s) e in
     (c, rw (c, lt-ltb count (256 ^ 3) few, le-leb (reply_length path h (byte_of s) count) room fits))
 
 memory_answerable : (h : Header) (path : Path) (s : Status) (from k n room : ℕ) → n ≤ 65536 → Readable (memory_action h s from k) n
@@ -181,7 +179,7 @@ module _ (u : TheUnit) (h : Header) (path : Path) (p : Arrived) (n : ℕ) (works
   planned_fits : (s : Status) (a : Action) (room : ℕ) → (reply_length path h (byte_of s) (reply_count h) ≤ room → Answerable a h path (byte_of s) room)
       → Fitting room (planned_for h path s a room)
   planned_fits s a room f =
-      planned_is h path s a room (Fitting room) (λ w l r. tt) (λ w l r. f l) (λ w e r. absurd (omega (arith, r))) (λ w e r. absurd (omega (arith, r)))
+      planned_is h path s a room (Fitting room) (λ w l r. tt) (λ w l r. f l) (λ w e r. absurd (omega (arith, r))) (λ w o e r. absurd (omega (arith, r)))
 
   pub answerable : (room : ℕ) → Fitting room (decided u h path p room)
   unfolding reply_count
@@ -194,11 +192,10 @@ module _ (u : TheUnit) (h : Header) (path : Path) (p : Arrived) (n : ℕ) (works
 
 -- so a judgement allows what it rules
 pub judged_allowed : (u : TheUnit) (p : Arrived) (sizes : Sizes)
-    → GrantedBy (judged u p sizes).ruling (judged u p sizes).path (length p.packet) sizes.memory sizes.reply
+    → GrantedBy (judged u p sizes) (length p.packet) sizes.memory sizes.reply
 judged_allowed u p sizes =
-    judged_is u p sizes (λ j. GrantedBy j.ruling j.path (length p.packet) sizes.memory sizes.reply) (λ e. tt) (λ e f. tt) (λ e f why g. tt)
+    judged_is u p sizes (λ r. GrantedBy r (length p.packet) sizes.memory sizes.reply) (λ e. tt) (λ e f. tt) (λ e f why g. tt)
     (λ e f g w. tt) (λ e f g t w. tt)
-    (λ e f h g.
-    let path = (read_packet p.packet u.number).path in
-    let whole = header_whole p.packet u.number h g in
-    (granted u h path p sizes.memory e whole sizes.reply, answerable u h path p sizes.memory e whole sizes.reply))
+    (λ e f c g.
+    let whole = header_whole p.packet u.number c.header g in
+    (granted u c.header c.path p sizes.memory e whole sizes.reply, answerable u c.header c.path p sizes.memory e whole sizes.reply))

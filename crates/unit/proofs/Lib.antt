@@ -1,6 +1,6 @@
+pub mod RangeLaws
 pub mod FateLaws
 pub mod SomeLaws
-pub mod WindowLaws
 pub mod FieldLaws
 pub mod DecideLaws
 pub mod ActLaws

@@ -10,14 +10,13 @@ use Rattle.packets.specs.declared.instruction.Kind.{Kind}
 use Rattle.packets.specs.declared.instruction.Kind.TheVariants.{Unused, Read, ReadModifyWrite, Write}
 use Rattle.packets.specs.declared.header.Header.{Header}
 use Rattle.packets.specs.declared.path.Path.{Path}
-use Rattle.unit.specs.Fate.{is_success}
+use Rattle.unit.specs.Fate.{Status, is_success}
 use Rattle.unit.specs.Usable.{usable}
 use Rattle.unit.specs.Given.{Arrived}
 use Rattle.unit.specs.Decide.{span_size, header_status, all_at_hand, data_count, data_status_of}
 use Rattle.unit.specs.Plan.{read_action, rmw_action, write_action, action_of, field_action_of}
 use Rattle.unit.specs.Act.{combined, last_of, stored, data_for}
 use Rattle.unit.specs.Granted.{Readable, Storable, Granted}
-use Rattle.unit.specs.declared.fate.Status.{Status}
 use Rattle.unit.specs.declared.decide.Action.{Action}
 use Rattle.unit.specs.declared.decide.Action.TheVariants.{Nothing, ReadMemory, RepeatByte, Store, StoreLast, Combine, ReadFields, Swap, WriteField}
 use Rattle.unit.specs.declared.unit.Unit.{Unit as TheUnit}

@@ -1,5 +1,5 @@
 -- Laws of plans: what holds of every plan, from what holds of what its halves chose.
-use Rattle.std.proofs.Common.{◌≡◌, ℕ, ◌/◌, ◌<◌, ◌≤◌, min, Bool, true, false, cond, not, ◌&&◌, eqb, ltb, ◌↔◌, sym, refl, ap, ◌∙◌, arith, ltb-false, ltb-true, eqb-true}
+use Rattle.std.proofs.Common.{◌≡◌, ℕ, ◌/◌, ◌<◌, ◌≤◌, min, Bool, true, false, cond, not, ◌&&◌, eqb, ltb, ◌↔◌, sym, refl, ap, ◌∙◌, arith, ltb-false, ltb-true, eqb-true, Ok, Err}
 use mathlib.Core.Bool.{false≢true}
 use borrow.Author.Tests.{eqb-false}
 use Rattle.packets.specs.Instruction.{is_verified, is_incrementing, wants_reply, header_size}
@@ -9,11 +9,11 @@ use Rattle.packets.specs.declared.instruction.Kind.TheVariants.{Unused, Read, Re
 use Rattle.packets.specs.declared.header.Header.{Header}
 use Rattle.packets.specs.declared.path.Path.{Path}
 use Rattle.packets.specs.declared.reading.End.{End}
-use Rattle.unit.specs.Fate.{byte_of, is_success, or_else, fate_number}
+use Rattle.unit.specs.Fate.{Status, byte_of, is_success, or_else, fate_number}
 use Rattle.unit.specs.Given.{Arrived}
 use Rattle.unit.specs.Decide.{header_status, AtHand, all_at_hand, data_count, data_status_on, data_status_of}
-use Rattle.unit.specs.Plan.{action_of, memory_action, field_action, reply_count, planned_for, decided_by_data, decided_on}
-use Rattle.unit.specs.declared.fate.Status.{Status}
+use Rattle.unit.specs.Plan.{action_of, memory_action, field_action, reply_count, unanswered_fate, planned_for, decided_by_data, decided_on}
+use Rattle.unit.specs.declared.fate.Offence.{Offence}
 use Rattle.unit.specs.declared.fate.Fate.{Fate}
 use Rattle.unit.specs.declared.fate.Fate.TheVariants.{TimeChanged, Unusable, NoSuchLink, NoRoom, Unread, TimeThrownAway, NotObeyed, Obeyed, TimeTaken, Replied}
 use Rattle.unit.specs.declared.decide.Action.{Action}
@@ -68,26 +68,26 @@ module _ (h : Header) (path : Path) (s : Status) (a : Action) (room : ℕ) where
   pub planned_is : (Q : Plan → Type 0)
       → (wants_reply h.instruction ≡ true → room < due → Q (record { fate = NoRoom; status = s; action = Nothing; length = 0 }))
       → (wants_reply h.instruction ≡ true → due ≤ room → Q (record { fate = Replied s; status = s; action = a; length = due }))
-      → (wants_reply h.instruction ≡ false → is_success s ≡ true → Q (record { fate = Obeyed; status = s; action = a; length = 0 }))
-      → (wants_reply h.instruction ≡ false → is_success s ≡ false → Q (record { fate = NotObeyed s; status = s; action = a; length = 0 }))
+      → (wants_reply h.instruction ≡ false → s ≡ Ok tt → Q (record { fate = Obeyed; status = s; action = a; length = 0 }))
+      → (wants_reply h.instruction ≡ false → (offence : Offence) → s ≡ Err offence → Q (record { fate = NotObeyed offence; status = s; action = a; length = 0 }))
       → Q (planned_for h path s a room)
   unfolding planned_for
-  planned_is Q none reply obeyed refused = go (wants_reply h.instruction) (ltb room due) (is_success s) refl refl refl
+  planned_is Q none reply obeyed refused = go (wants_reply h.instruction) (ltb room due) s refl refl refl
     where
-      go : (w b o : Bool) → wants_reply h.instruction ≡ w → ltb room due ≡ b → is_success s ≡ o
+      go : (w b : Bool) (t : Status) → wants_reply h.instruction ≡ w → ltb room due ≡ b → s ≡ t
           → Q (cond w (cond b (record { fate = NoRoom; status = s; action = Nothing; length = 0 })
           (record { fate = Replied s; status = s; action = a; length = due }))
-          (record { fate = cond o Obeyed (NotObeyed s); status = s; action = a; length = 0 }))
-      go true true o e f g = none e (ltb-true room due f)
-      go true false o e f g = reply e (ltb-false room due f)
-      go false b true e f g = obeyed e g
-      go false b false e f g = refused e g
+          (record { fate = unanswered_fate t; status = s; action = a; length = 0 }))
+      go true true t e f g = none e (ltb-true room due f)
+      go true false t e f g = reply e (ltb-false room due f)
+      go false b (Ok done) e f g = obeyed e g
+      go false b (Err offence) e f g = refused e offence g
 
 -- it has the status it is given, and does what was to be done, or nothing
 pub planned_has : (P : Status → Action → Type 0) (h : Header) (path : Path) (status : Status) (action : Action) (room : ℕ)
     → P status Nothing → P status action → P (planned_for h path status action room).status (planned_for h path status action room).action
 planned_has P h path status action room none some =
-    planned_is h path status action room (λ plan. P plan.status plan.action) (λ w l. none) (λ w l. some) (λ w e. some) (λ w e. some)
+    planned_is h path status action room (λ plan. P plan.status plan.action) (λ w l. none) (λ w l. some) (λ w e. some) (λ w o e. some)
 
 -- ---- a decision
 
@@ -139,7 +139,7 @@ module _ (u : TheUnit) (h : Header) (path : Path) (hand : AtHand) (end : End) (l
       (λ e a. given status (memory_action h status from (data_count h hand)) ∙ rw a) (λ e a. given status (field_action h status hand.bytes from) ∙ rw a)
     where
       given : (s : Status) (a : Action) → (planned_for h path s a room).status ≡ s
-      given s a = planned_is h path s a room (λ plan. plan.status ≡ s) (λ w l. refl) (λ w l. refl) (λ w e. refl) (λ w e. refl)
+      given s a = planned_is h path s a room (λ plan. plan.status ≡ s) (λ w l. refl) (λ w l. refl) (λ w e. refl) (λ w o e. refl)
 
   -- where the fate is 3, and nowhere else, the reply that is due is longer than the room
   abbrev Roomless : Plan → Type 0
@@ -154,7 +154,7 @@ module _ (u : TheUnit) (h : Header) (path : Path) (hand : AtHand) (end : End) (l
       planned : (s : Status) (a : Action) → Roomless (planned_for h path s a room)
       planned s a =
           planned_is h path s a room Roomless (λ w l. (λ n. (w, l), λ x. refl)) (λ w l. (λ n. absurd (omega (arith, n)), λ x. absurd (omega (arith, l, x.1))))
-          (λ w e. (λ n. absurd (omega (arith, n)), λ x. absurd (false≢true (sym w ∙ x.0)))) (λ w e. (λ n. absurd (omega (arith, n)), λ x. absurd (false≢true (sym w ∙ x.0))))
+          (λ w e. (λ n. absurd (omega (arith, n)), λ x. absurd (false≢true (sym w ∙ x.0)))) (λ w o e. (λ n. absurd (omega (arith, n)), λ x. absurd (false≢true (sym w ∙ x.0))))
 
   -- the reply fits into the room, or there is none
   abbrev Fits : Plan → Type 0
@@ -166,7 +166,7 @@ module _ (u : TheUnit) (h : Header) (path : Path) (hand : AtHand) (end : End) (l
       (λ e a. planned status (field_action h status hand.bytes from))
     where
       planned : (s : Status) (a : Action) → Fits (planned_for h path s a room)
-      planned s a = planned_is h path s a room Fits (λ w l. omega arith) (λ w l. l) (λ w e. omega arith) (λ w e. omega arith)
+      planned s a = planned_is h path s a room Fits (λ w l. omega arith) (λ w l. l) (λ w e. omega arith) (λ w o e. omega arith)
 
   -- where it is 20 its status is the plan's, and a reply was asked for
   abbrev RepliesWith : Status → Plan → Type 0
@@ -180,7 +180,7 @@ module _ (u : TheUnit) (h : Header) (path : Path) (hand : AtHand) (end : End) (l
       planned : (t : Status) (a : Action) → RepliesWith s (planned_for h path t a room)
       planned t a =
           planned_is h path t a room (RepliesWith s) (λ w l f. absurd (omega (arith, ap fate_number f))) (λ w l f. (ap (status_in t) f, w))
-          (λ w e f. absurd (omega (arith, ap fate_number f))) (λ w e f. absurd (omega (arith, ap fate_number f)))
+          (λ w e f. absurd (omega (arith, ap fate_number f))) (λ w o e f. absurd (omega (arith, ap fate_number f)))
 
   -- and where that is 0, what holds of the data of the action holds of the plan's
   abbrev Carries : (Action → Type 0) → Plan → Type 0
@@ -195,4 +195,4 @@ module _ (u : TheUnit) (h : Header) (path : Path) (hand : AtHand) (end : End) (l
       planned : (s : Status) (a : Action) → (is_success s ≡ true → P a) → Carries P (planned_for h path s a room)
       planned s a f =
           planned_is h path s a room (Carries P) (λ w l n. absurd (omega (arith, n))) (λ w l n. f) (λ w e n. absurd (omega (arith, n)))
-          (λ w e n. absurd (omega (arith, n)))
+          (λ w o e n. absurd (omega (arith, n)))

@@ -1,5 +1,5 @@
 -- Laws of replies: what the plan counts is what is written. Where the fate is 20, all of the reply stands in the buffer.
-use Rattle.std.proofs.Common.{◌≡◌, ℕ, ◌/◌, ◌%◌, ◌^◌, ◌<◌, ◌≤◌, Bool, true, false, cond, not, ◌&&◌, ◌||◌, eqb, leb, List, length, get_or, sym, refl, ◌∙◌, ⊎_elim, arith, lt-ltb, eq-eqb, eqb-true, le-leb}
+use Rattle.std.proofs.Common.{◌≡◌, ℕ, ◌/◌, ◌%◌, ◌^◌, ◌<◌, ◌≤◌, Bool, true, false, cond, not, ◌&&◌, ◌||◌, eqb, leb, List, length, get_or, sym, refl, ◌∙◌, ⊎_elim, arith, lt-ltb, eq-eqb, eqb-true, le-leb, Ok, Err}
 use mathlib.Core.Bool.{false≢true}
 use borrow.Author.Tests.{not-true}
 use lib.ListN.{length-replicate}
@@ -13,7 +13,7 @@ use Rattle.packets.specs.declared.instruction.Kind.TheVariants.{Unused, Read, Re
 use Rattle.packets.specs.declared.header.Header.{Header}
 use Rattle.packets.specs.declared.path.Path.{Path}
 use Rattle.packets.proofs.ReplyLaws.{same_length, length_reply}
-use Rattle.unit.specs.Fate.{byte_of, is_success, fate_number}
+use Rattle.unit.specs.Fate.{Status, byte_of, is_success, fate_number}
 use Rattle.unit.specs.Usable.{usable}
 use Rattle.unit.specs.Fields.{named, values_of}
 use Rattle.unit.specs.Given.{Arrived, Lent}
@@ -21,14 +21,14 @@ use Rattle.unit.specs.Decide.{opening_status, is_field_length, header_status, al
 use Rattle.unit.specs.Plan.{action_of, field_action_of, reply_count, planned_for, decided}
 use Rattle.unit.specs.Act.{data_for, replied_to}
 use Rattle.unit.specs.Granted.{Readable}
-use Rattle.unit.specs.declared.fate.Status.{Status}
-use Rattle.unit.specs.declared.fate.Status.TheVariants.{Success, UnusedCode, WrongKey, WrongAddress}
+use Rattle.unit.specs.declared.fate.Offence.TheVariants.{UnusedCode, WrongKey, WrongAddress}
 use Rattle.unit.specs.declared.decide.Action.{Action}
 use Rattle.unit.specs.declared.decide.Action.TheVariants.{Nothing, ReadMemory, RepeatByte}
 use Rattle.unit.specs.declared.decide.Plan.{Plan}
 use Rattle.unit.specs.declared.unit.Unit.{Unit as TheUnit}
-use Rattle.unit.proofs.FateLaws.{passed}
-use Rattle.unit.proofs.FieldLaws.{length_named, length_fields}
+use Rattle.unit.proofs.FateLaws.{passed, success_byte}
+use Rattle.std.proofs.lemmas.List.FromFn.{length-range_with_len}
+use Rattle.unit.proofs.FieldLaws.{length_fields}
 use Rattle.unit.proofs.DecideLaws.{write_bit, fields_passed, named_passed, names_length, opened}
 use Rattle.unit.proofs.PlanLaws.{memory_action_in, field_action_in, planned_is, decided_is}
 use Rattle.unit.proofs.GrantLaws.{accepted_memory}
@@ -40,8 +40,8 @@ used_code : (h : Header) (key logical : ℕ) → is_success (opening_status h ke
 unfolding opening_status
 used_code h key logical s =
     let other = not (eqb (type_of h.instruction) 1) in
-    let rest = cond (not (eqb h.key key)) WrongKey (cond (not (eqb h.target logical) && not (eqb h.target 0xFE)) WrongAddress Success) in
-    (either_false other (is_unused (kind_in h)) (passed (other || is_unused (kind_in h)) UnusedCode rest refl s).0).1
+    let rest = cond (not (eqb h.key key)) (Err WrongKey) (cond (not (eqb h.target logical) && not (eqb h.target 0xFE)) (Err WrongAddress) (Ok tt)) in
+    (either_false other (is_unused (kind_in h)) (passed (other || is_unused (kind_in h)) (Err UnusedCode) rest refl s).0).1
 
 pub accepted_code : (u : TheUnit) (h : Header) (path : Path) (link : ℕ) → is_success (header_status u h path link) ≡ true → is_unused (kind_in h) ≡ false
 accepted_code u h path link s = ⊎_elim (used_code h u.key u.logical) (used_code h 0x00 0xFE) (opened u h path link s)
@@ -70,7 +70,7 @@ module _ (u : TheUnit) (h : Header) (link : ℕ) (m : List ℕ) where
   field_count_law Unused p from l used w = absurd (false≢true (sym used))
   field_count_law Read p from l used w =
       let four = eqb-true (h.length % 4) 0 (first_true (eqb (h.length % 4) 0) (leb 4 h.length) (first_true (eqb (h.length % 4) 0 && leb 4 h.length) (leb h.length 64) l)) in
-      let n = length_named h.address (h.length / 4) in
+      let n = length-range_with_len h.address (h.length / 4) in
       omega (arith, four, n, length_fields (values_of u.fields u.owner u.clock.last u.links link) (named h.address (h.length / 4)))
   field_count_law ReadModifyWrite p from l used w = let eight = eqb-true h.length 8 l in omega (arith, eight)
   field_count_law Write p from l used w = absurd (w refl)
@@ -80,7 +80,7 @@ module _ (u : TheUnit) (h : Header) (link : ℕ) (m : List ℕ) where
 carries_passed : (h : Header) (s : Status) → carries_data h (byte_of s) ≡ true → (is_write h.instruction ≡ false) × (is_success s ≡ true)
 carries_passed h s e =
     let w = is_write h.instruction in
-    (not-true w (first_true (not w) (is_success s) e), second_true (not w) (is_success s) e)
+    (not-true w (first_true (not w) (eqb (byte_of s) 0) e), success_byte s ∙ second_true (not w) (eqb (byte_of s) 0) e)
 
 module _ (u : TheUnit) (h : Header) (path : Path) (p : Arrived) (m : List ℕ) (room : ℕ) where
   -- a plan that replies has counted its data, and they have room
@@ -95,7 +95,7 @@ module _ (u : TheUnit) (h : Header) (path : Path) (p : Arrived) (m : List ℕ) (
       → Counted (planned_for h path s a room)
   planned_counts s a f =
       planned_is h path s a room Counted (λ w l n. absurd (omega (arith, n))) (λ w l n. (f, refl, l)) (λ w e n. absurd (omega (arith, n)))
-      (λ w e n. absurd (omega (arith, n)))
+      (λ w o e n. absurd (omega (arith, n)))
 
   -- a refused command carries none
   refused_counts : (s : Status) (a : Action) → is_success s ≡ false → Counted (planned_for h path s a room)

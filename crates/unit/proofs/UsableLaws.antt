@@ -1,10 +1,10 @@
 -- A unit is after any call as usable as before it: what it was set up with stays, and what a call makes of clock and owner keeps within its bounds.
-use Rattle.std.proofs.Common.{◌≡◌, ℕ, ◌+◌, ◌*◌, ◌%◌, ◌^◌, ◌<◌, ◌≤◌, Bool, true, false, cond, not, ◌&&◌, eqb, ltb, leb, length, sym, refl, ◌∙◌, arith, ltb-true, lt-ltb, le-leb, leb-true}
+use Rattle.std.proofs.Common.{◌≡◌, ℕ, ◌+◌, ◌*◌, ◌%◌, ◌^◌, ◌<◌, ◌≤◌, Bool, true, false, cond, not, ◌&&◌, eqb, ltb, leb, length, sym, refl, ◌∙◌, arith, ltb-true, lt-ltb, le-leb, leb-true, Option, None, Some}
 use mathlib.Core.Bool.{false≢true}
 use Rattle.octets.specs.Numbers.{Digits}
 use Rattle.octets.proofs.PlaceLaws.{second_true}
 use Rattle.packets.specs.Path.{path_of}
-use Rattle.packets.specs.Reading.{read_packet}
+use Rattle.packets.specs.Reading.{read_packet, path_read}
 use Rattle.packets.specs.declared.path.Path.{Path}
 use Rattle.packets.specs.declared.time.When.{When}
 use Rattle.packets.specs.declared.time.When.TheVariants.{AtWrap, AtOnce}
@@ -13,7 +13,7 @@ use Rattle.packets.proofs.BareLaws.{bare_bytes}
 use Rattle.packets.proofs.ReadingLaws.{packet_path}
 use Rattle.packets.proofs.TimeLaws.{taken_below}
 use Rattle.unit.specs.Some.{some}
-use Rattle.unit.specs.Windows.{meets, used}
+use Rattle.unit.specs.Windows.{ends_past, used}
 use Rattle.unit.specs.Usable.{fits_time, usable_unit, usable}
 use Rattle.unit.specs.Clock.{time_of, seconds_of, set_at, after_time, nearest_second, at_wrap, fraction_set, after_code, after_ticks, time_code_written}
 use Rattle.unit.specs.Owner.{unowned, swapped}
@@ -21,11 +21,8 @@ use Rattle.unit.specs.Act.{with_clock, with_owner}
 use Rattle.unit.specs.Given.{Arrived, as_read, Lent}
 use Rattle.unit.specs.Judge.{is_link}
 use Rattle.unit.specs.Calls.{take_packet, small_call, take_time_code, take_ticks}
-use Rattle.unit.specs.declared.windows.Question.TheVariants.{EndsPast}
 use Rattle.unit.specs.declared.clock.Clock.{Clock}
 use Rattle.unit.specs.declared.clock.Elapsed.{Elapsed}
-use Rattle.unit.specs.declared.clock.Waiting.{Waiting}
-use Rattle.unit.specs.declared.clock.Waiting.TheVariants.{NoValue, Value}
 use Rattle.unit.specs.declared.owner.Owner.{Owner}
 use Rattle.unit.specs.declared.unit.Unit.{Unit as TheUnit}
 use Rattle.unit.proofs.UnitLaws.{SetUpAs}
@@ -99,22 +96,22 @@ after_ticks_law : (c : Clock) (n : ℕ) → ClockWorks c → ClockWorks (after_t
 unfolding after_ticks
 after_ticks_law c n k = (lt-ltb ((c.elapsed.value + n) % 2 ^ 56) (2 ^ 56) (omega arith), k.1, k.2)
 
-wrap_fits : (e : Elapsed) (w : Waiting) → ltb e.value (2 ^ 56) ≡ true → fits_time w ≡ true → ltb (at_wrap e w).value (2 ^ 56) ≡ true
-wrap_fits e (Value x) l k = k
-wrap_fits e NoValue l k =
+wrap_fits : (e : Elapsed) (w : Option Elapsed) → ltb e.value (2 ^ 56) ≡ true → fits_time w ≡ true → ltb (at_wrap e w).value (2 ^ 56) ≡ true
+wrap_fits e (Some x) l k = k
+wrap_fits e None l k =
     let n = nearest_is e.value (ltb-true e.value (2 ^ 56) l) in
     lt-ltb (nearest_second e.value) (2 ^ 56) (omega (arith, n))
 
 -- the ways that a Time-Code can go: the wrap, the next one, any other
 pub code_is : (c : Clock) (v : ℕ) (P : Clock → Type 0)
-    → P (record { last = v; elapsed = at_wrap c.elapsed c.waiting; waiting = NoValue })
+    → P (record { last = v; elapsed = at_wrap c.elapsed c.waiting; waiting = None })
     → P (record { last = v; elapsed = fraction_set c.elapsed v; waiting = c.waiting })
     → P (record { last = v; elapsed = c.elapsed; waiting = c.waiting })
     → P (after_code c v)
 unfolding after_code
 code_is c v P wrap next other = go (eqb c.last 63 && eqb v 0) (eqb v (c.last + 1))
   where
-    go : (t s : Bool) → P (cond t (record { last = v; elapsed = at_wrap c.elapsed c.waiting; waiting = NoValue })
+    go : (t s : Bool) → P (cond t (record { last = v; elapsed = at_wrap c.elapsed c.waiting; waiting = None })
         (record { last = v; elapsed = cond s (fraction_set c.elapsed v) c.elapsed; waiting = c.waiting }))
     go true s = wrap
     go false true = next
@@ -169,7 +166,7 @@ with_memory_law u v n w k = rw (k, w)
 
 pub alone : (u : TheUnit) (n : ℕ) → usable u n ≡ true → usable_unit u ≡ true
 unfolding usable
-alone u n e = second_true (leb 1 n && leb n 65536 && not (some (meets (EndsPast n)) (used u.windows))) (usable_unit u) e
+alone u n e = second_true (leb 1 n && leb n 65536 && not (some (ends_past n) (used u.windows))) (usable_unit u) e
 
 -- a packet changes nothing of the setup, and of bytes nothing of what is usable, whatever memory it is lent
 pub packet_set_up : (u : TheUnit) (p : Arrived) (lent : Lent) → SetUpAs u (take_packet u p lent).answer.unit
@@ -192,7 +189,7 @@ usable_packet u p lent d =
     size = length lent.memory
 
     path : Path
-    path = (read_packet (as_read p).packet u.number).path
+    path = path_read (read_packet (as_read p).packet u.number)
 
     low : usable_unit u ≡ true → is_link u p.link ≡ true → p.link ≤ 31
     low k there =

@@ -12,7 +12,6 @@ use Rattle.unit.specs.declared.fate.Fate.TheVariants.{TimeChanged, Unusable, Tim
 use Rattle.unit.specs.declared.decide.Plan.{Plan}
 use Rattle.unit.specs.declared.judging.Ruling.{Ruling}
 use Rattle.unit.specs.declared.judging.Ruling.TheVariants.{Ends, SetsTime, Planned}
-use Rattle.unit.specs.declared.judging.Judgement.{Judgement}
 use Rattle.unit.specs.declared.calls.Answer.{Answer}
 use Rattle.unit.specs.declared.unit.Unit.{Unit as TheUnit}
 
@@ -44,13 +43,10 @@ acted plan u h path bytes link lent = record {
 
 -- What is done by a ruling on a packet of these bytes, from that link. Where the fate is all, it is counted (1 and 2 count nothing); a time packet that is
 -- taken sets the time.
-abbrev pub done_by : Ruling → Path → TheUnit → List ℕ → ℕ → Lent → Outcome
-done_by (Ends fate) path u bytes link lent = leaving (without_reply fate (counted_unit fate u)) lent
-done_by (SetsTime t) path u bytes link lent = leaving (without_reply TimeTaken (counted_unit TimeTaken (with_clock u (after_time u.clock t)))) lent
-done_by (Planned h plan) path u bytes link lent = acted plan u h path bytes link lent
-
-abbrev pub done : Judgement → TheUnit → List ℕ → ℕ → Lent → Outcome
-done judgement u bytes link lent = done_by judgement.ruling judgement.path u bytes link lent
+abbrev pub done : Ruling → TheUnit → List ℕ → ℕ → Lent → Outcome
+done (Ends fate) u bytes link lent = leaving (without_reply fate (counted_unit fate u)) lent
+done (SetsTime t) u bytes link lent = leaving (without_reply TimeTaken (counted_unit TimeTaken (with_clock u (after_time u.clock t)))) lent
+done (Planned c plan) u bytes link lent = acted plan u c.header c.path bytes link lent
 
 -- A packet as it is read, with what is lent for it: judged, then done. (This is what became of every packet before request 2 of document 02.)
 abbrev pub take_read : TheUnit → Arrived → Lent → Outcome

@@ -1,11 +1,9 @@
 -- The time (document 01, 'Time'; 004).
-use Rattle.std.specs.Prelude.{ℕ, ◌+◌, ◌*◌, ◌/◌, ◌%◌, ◌^◌, cond, ◌&&◌, ◌==◌, nat_le}
+use Rattle.std.specs.Prelude.{ℕ, ◌+◌, ◌*◌, ◌/◌, ◌%◌, ◌^◌, Option, None, Some, cond, ◌&&◌, ◌==◌, nat_le}
 use Rattle.packets.specs.declared.time.When.{When}
 use Rattle.packets.specs.declared.time.When.TheVariants.{AtWrap, AtOnce}
 use Rattle.packets.specs.declared.time.Time.{Time}
 use Rattle.unit.specs.declared.clock.Elapsed.{Elapsed}
-use Rattle.unit.specs.declared.clock.Waiting.{Waiting}
-use Rattle.unit.specs.declared.clock.Waiting.TheVariants.{NoValue, Value}
 use Rattle.unit.specs.declared.clock.Clock.{Clock}
 
 -- ET is seconds in 32 bits, fraction in 24.
@@ -24,8 +22,8 @@ sent t = record { value = t.value; epoch = t.epoch }
 
 -- A time packet whose second preamble octet ends in 1 sets ET at once and drops a waiting value; one that ends in 0 makes T wait, replacing another.
 abbrev pub set_at : When → Clock → Time → Clock
-set_at AtOnce c t = record { last = c.last; elapsed = sent t; waiting = NoValue }
-set_at AtWrap c t = record { last = c.last; elapsed = c.elapsed; waiting = Value (sent t) }
+set_at AtOnce c t = record { last = c.last; elapsed = sent t; waiting = None }
+set_at AtWrap c t = record { last = c.last; elapsed = c.elapsed; waiting = Some (sent t) }
 
 unfoldable pub after_time : Clock → Time → Clock
 after_time c t = set_at t.when c t
@@ -36,9 +34,9 @@ unfoldable pub nearest_second : ℕ → ℕ
 nearest_second et = time_of (cond (nat_le (2 ^ 23) (fraction_of et)) ((seconds_of et + 1) % 2 ^ 32) (seconds_of et)) 0
 
 -- At the wrap of the Time-Code a waiting value becomes ET, else ET goes to that second.
-abbrev pub at_wrap : Elapsed → Waiting → Elapsed
-at_wrap e (Value w) = w
-at_wrap e NoValue = record { value = nearest_second e.value; epoch = e.epoch }
+abbrev pub at_wrap : Elapsed → Option Elapsed → Elapsed
+at_wrap e (Some w) = w
+at_wrap e None = record { value = nearest_second e.value; epoch = e.epoch }
 
 -- The top six fraction bits become v and the rest 0.
 abbrev pub fraction_set : Elapsed → ℕ → Elapsed
@@ -49,7 +47,7 @@ fraction_set e v = record { value = time_of (seconds_of e.value) (v * 2 ^ 18); e
 unfoldable pub after_code : Clock → ℕ → Clock
 after_code c v =
     cond (c.last == 63 && v == 0)
-    (record { last = v; elapsed = at_wrap c.elapsed c.waiting; waiting = NoValue })
+    (record { last = v; elapsed = at_wrap c.elapsed c.waiting; waiting = None })
     (record { last = v; elapsed = cond (v == c.last + 1) (fraction_set c.elapsed v) c.elapsed; waiting = c.waiting })
 
 -- Ticks add to ET, modulo 2^56.

@@ -1,6 +1,6 @@
 -- What is to be done with a command (document 01, 'Reading a packet', 'Span', 'Fields', 'Owner'): decided before anything is touched. Nothing here
 -- speaks of memory's contents or of a counter.
-use Rattle.std.specs.Prelude.{ℕ, ◌+◌, ◌-◌, ◌/◌, ◌%◌, ◌^◌, min, Bool, true, cond, not, ◌&&◌, ◌||◌, List, length, drop, ◌==◌, nat_le, nat_lt}
+use Rattle.std.specs.Prelude.{ℕ, ◌+◌, ◌-◌, ◌/◌, ◌%◌, ◌^◌, min, Bool, true, cond, not, ◌&&◌, ◌||◌, List, length, drop, ◌==◌, nat_le, nat_lt, Ok, Err}
 use Rattle.octets.specs.Crc.{crc}
 use Rattle.packets.specs.Instruction.{type_of, code_of, is_write, is_verified, is_incrementing, is_unused, is_read, is_rmw, header_size}
 use Rattle.packets.specs.Header.{kind_in}
@@ -11,16 +11,14 @@ use Rattle.packets.specs.declared.header.Header.{Header}
 use Rattle.packets.specs.declared.path.Path.{Path}
 use Rattle.packets.specs.declared.reading.End.{End}
 use Rattle.unit.specs.Some.{some}
-use Rattle.unit.specs.Fate.{or_else}
+use Rattle.unit.specs.Fate.{Status, or_else}
 use Rattle.unit.specs.Given.{Arrived}
-use Rattle.unit.specs.Windows.{meets, used}
+use Rattle.unit.specs.Windows.{allows, used}
 use Rattle.unit.specs.Owner.{is_owner}
 use Rattle.unit.specs.Fields.{field_of, named, is_missing, right_of, write_offence, swap_offence}
-use Rattle.unit.specs.declared.fate.Status.{Status}
-use Rattle.unit.specs.declared.fate.Status.TheVariants.{Success, UnusedCode, WrongKey, DataCrc, EarlyEop, TooMuchData, EndedByEep, VerifyOverrun}
-use Rattle.unit.specs.declared.fate.Status.TheVariants.{NotAuthorised, RmwLength, WrongAddress, NotOwner, NoSuchField}
+use Rattle.unit.specs.declared.fate.Offence.TheVariants.{UnusedCode, WrongKey, DataCrc, EarlyEop, TooMuchData, EndedByEep, VerifyOverrun}
+use Rattle.unit.specs.declared.fate.Offence.TheVariants.{NotAuthorised, RmwLength, WrongAddress, NotOwner, NoSuchField}
 use Rattle.unit.specs.declared.windows.Windows.{Windows}
-use Rattle.unit.specs.declared.windows.Question.TheVariants.{Allows}
 use Rattle.unit.specs.declared.owner.Owner.{Owner}
 use Rattle.unit.specs.declared.unit.Unit.{Unit as TheUnit}
 
@@ -30,10 +28,10 @@ use Rattle.unit.specs.declared.unit.Unit.{Unit as TheUnit}
 -- plug-and-play for key 00 and address FE.
 unfoldable pub opening_status : Header → ℕ → ℕ → Status
 opening_status h key logical =
-    cond (not (type_of h.instruction == 1) || is_unused (kind_in h)) UnusedCode
-    (cond (not (h.key == key)) WrongKey
-    (cond (not (h.target == logical) && not (h.target == 0xFE)) WrongAddress
-    Success))
+    cond (not (type_of h.instruction == 1) || is_unused (kind_in h)) (Err UnusedCode)
+    (cond (not (h.key == key)) (Err WrongKey)
+    (cond (not (h.target == logical) && not (h.target == 0xFE)) (Err WrongAddress)
+    (Ok tt)))
 
 -- RMW reads n = L/2 bytes.
 abbrev pub rmw_count : Header → ℕ
@@ -46,15 +44,15 @@ span_size h =
 
 -- Authorised: the extended address is 0, and one window holds the whole span with the right.
 unfoldable pub is_authorised : Windows → Header → Bool
-is_authorised w h = h.extended == 0 && some (meets (Allows (kind_in h) h.address (span_size h))) (used w)
+is_authorised w h = h.extended == 0 && some (allows (kind_in h) h.address (span_size h)) (used w)
 
 -- 11 RMW with L not 0, 2, 4, 6 or 8; 10 not authorised; 9 verified write with L above 1,024.
 unfoldable pub span_status : Windows → Header → Status
 span_status w h =
-    cond (is_rmw (kind_in h) && (nat_lt 8 h.length || not (h.length % 2 == 0))) RmwLength
-    (cond (not (is_authorised w h)) NotAuthorised
-    (cond (is_write h.instruction && is_verified h.instruction && nat_lt 1024 h.length) VerifyOverrun
-    Success))
+    cond (is_rmw (kind_in h) && (nat_lt 8 h.length || not (h.length % 2 == 0))) (Err RmwLength)
+    (cond (not (is_authorised w h)) (Err NotAuthorised)
+    (cond (is_write h.instruction && is_verified h.instruction && nat_lt 1024 h.length) (Err VerifyOverrun)
+    (Ok tt)))
 
 -- An RMW has L of 8 and names one field; a read or write has L a multiple of 4 from 4 to 64 and names L/4.
 abbrev pub is_field_length : Kind → ℕ → Bool
@@ -73,8 +71,8 @@ names_fields h =
 
 -- F2 and F3.
 abbrev pub offence_in : Kind → ℕ → ℕ → Status
-offence_in Unused address count = Success
-offence_in Read address count = Success
+offence_in Unused address count = Ok tt
+offence_in Read address count = Ok tt
 offence_in ReadModifyWrite address count = swap_offence (right_of address)
 offence_in Write address count = write_offence (named address count)
 
@@ -88,11 +86,11 @@ is_allowed Write o initiator path link = is_owner o initiator path link
 -- 10; then F1 if any field named isn't in our table; F2 or F3; F0.
 unfoldable pub fields_status : Owner → Header → Path → ℕ → Status
 fields_status o h path link =
-    cond (not (names_fields h)) NotAuthorised
-    (cond (some is_missing (named h.address (field_count (kind_in h) h.length))) NoSuchField
+    cond (not (names_fields h)) (Err NotAuthorised)
+    (cond (some is_missing (named h.address (field_count (kind_in h) h.length))) (Err NoSuchField)
     (or_else (offence_in (kind_in h) h.address (field_count (kind_in h) h.length))
-    (cond (not (is_allowed (kind_in h) o h.initiator path link)) NotOwner
-    Success)))
+    (cond (not (is_allowed (kind_in h) o h.initiator path link)) (Err NotOwner)
+    (Ok tt))))
 
 -- Protocol 01, and 03.
 unfoldable pub header_status : TheUnit → Header → Path → ℕ → Status
@@ -111,11 +109,11 @@ wanted_count h = cond (is_read (kind_in h)) 0 (h.length + 1)
 -- so all of them have the CRC 0; so have the none that a read wants.
 unfoldable pub data_status : ℕ → ℕ → ℕ → End → Status
 data_status k data_crc wanted end =
-    cond (not (is_eop end)) EndedByEep
-    (cond (nat_lt k wanted) EarlyEop
-    (cond (nat_lt wanted k) TooMuchData
-    (cond (not (data_crc == 0)) DataCrc
-    Success)))
+    cond (not (is_eop end)) (Err EndedByEep)
+    (cond (nat_lt k wanted) (Err EarlyEop)
+    (cond (nat_lt wanted k) (Err TooMuchData)
+    (cond (not (data_crc == 0)) (Err DataCrc)
+    (Ok tt))))
 
 -- What is at hand of a packet whose header is whole: its bytes from the start on, all or the first; how many came in all; and the CRC of those behind
 -- the header.

@@ -1,34 +1,39 @@
 -- The numbers a caller gets (document 01, 'Numbers a caller gets', 'Reading a packet' and 'Fields').
-use Rattle.std.specs.Prelude.{ℕ, Bool, cond, ◌==◌}
+use Rattle.std.specs.Prelude.{ℕ, Bool, cond, is_ok, Option, Some, None, Result, Ok, Err}
 use Rattle.packets.specs.Reading.{number_of}
-use Rattle.unit.specs.declared.fate.Status.{Status}
-use Rattle.unit.specs.declared.fate.Status.TheVariants.{Success, UnusedCode, WrongKey, DataCrc, EarlyEop, TooMuchData, EndedByEep, VerifyOverrun}
-use Rattle.unit.specs.declared.fate.Status.TheVariants.{NotAuthorised, RmwLength, WrongAddress, NotOwner, NoSuchField, ReadOnlyField, PlainDeviceId}
+use Rattle.unit.specs.declared.fate.Offence.{Offence}
+use Rattle.unit.specs.declared.fate.Offence.TheVariants.{UnusedCode, WrongKey, DataCrc, EarlyEop, TooMuchData, EndedByEep, VerifyOverrun}
+use Rattle.unit.specs.declared.fate.Offence.TheVariants.{NotAuthorised, RmwLength, WrongAddress, NotOwner, NoSuchField, ReadOnlyField, PlainDeviceId}
 use Rattle.unit.specs.declared.fate.Fate.{Fate}
 use Rattle.unit.specs.declared.fate.Fate.TheVariants.{TimeChanged, Unusable, NoSuchLink, NoRoom, Unread, TimeThrownAway, NotObeyed, Obeyed, TimeTaken, Replied}
-use Rattle.unit.specs.declared.fate.Told.{Told}
-use Rattle.unit.specs.declared.fate.Told.TheVariants.{Nothing, Byte}
+
+-- Obeyed, or refused by a check.
+abbrev pub Status : Type 0
+Status = Result Unit Offence
 
 -- Document 01's number of each status. 1 isn't used.
+abbrev pub offence_byte : Offence → ℕ
+offence_byte UnusedCode = 2
+offence_byte WrongKey = 3
+offence_byte DataCrc = 4
+offence_byte EarlyEop = 5
+offence_byte TooMuchData = 6
+offence_byte EndedByEep = 7
+offence_byte VerifyOverrun = 9
+offence_byte NotAuthorised = 10
+offence_byte RmwLength = 11
+offence_byte WrongAddress = 12
+offence_byte NotOwner = 0xF0
+offence_byte NoSuchField = 0xF1
+offence_byte ReadOnlyField = 0xF2
+offence_byte PlainDeviceId = 0xF3
+
 abbrev pub byte_of : Status → ℕ
-byte_of Success = 0
-byte_of UnusedCode = 2
-byte_of WrongKey = 3
-byte_of DataCrc = 4
-byte_of EarlyEop = 5
-byte_of TooMuchData = 6
-byte_of EndedByEep = 7
-byte_of VerifyOverrun = 9
-byte_of NotAuthorised = 10
-byte_of RmwLength = 11
-byte_of WrongAddress = 12
-byte_of NotOwner = 0xF0
-byte_of NoSuchField = 0xF1
-byte_of ReadOnlyField = 0xF2
-byte_of PlainDeviceId = 0xF3
+byte_of (Ok done) = 0
+byte_of (Err offence) = offence_byte offence
 
 abbrev pub is_success : Status → Bool
-is_success s = byte_of s == 0
+is_success = is_ok
 
 -- Checks in their order: the first that is not passed decides.
 abbrev pub or_else : Status → Status → Status
@@ -42,20 +47,20 @@ fate_number NoSuchLink = 2
 fate_number NoRoom = 3
 fate_number (Unread why) = number_of why
 fate_number TimeThrownAway = 16
-fate_number (NotObeyed s) = 17
+fate_number (NotObeyed offence) = 17
 fate_number Obeyed = 18
 fate_number TimeTaken = 19
 fate_number (Replied s) = 20
 
 -- 17, 18 (status 0) and 20 carry a status, the others none.
-abbrev pub fate_status : Fate → Told
-fate_status TimeChanged = Nothing
-fate_status Unusable = Nothing
-fate_status NoSuchLink = Nothing
-fate_status NoRoom = Nothing
-fate_status (Unread why) = Nothing
-fate_status TimeThrownAway = Nothing
-fate_status (NotObeyed s) = Byte (byte_of s)
-fate_status Obeyed = Byte 0
-fate_status TimeTaken = Nothing
-fate_status (Replied s) = Byte (byte_of s)
+abbrev pub fate_status : Fate → Option ℕ
+fate_status TimeChanged = None
+fate_status Unusable = None
+fate_status NoSuchLink = None
+fate_status NoRoom = None
+fate_status (Unread why) = None
+fate_status TimeThrownAway = None
+fate_status (NotObeyed offence) = Some (offence_byte offence)
+fate_status Obeyed = Some 0
+fate_status TimeTaken = None
+fate_status (Replied s) = Some (byte_of s)

@@ -1,14 +1,14 @@
 -- The fields of plug-and-play (document 01, 'Fields'; 000, 5.2.4.4.4, 5.3.3 and 5.3.4).
-use Rattle.std.specs.Prelude.{ℕ, zero, suc, ◌+◌, ◌*◌, ◌/◌, ◌%◌, ◌^◌, Bool, cond, ◌&&◌, ◌||◌, List, [], ◌∷◌, ◌++◌, length, ◌==◌, nat_lt, slice_index}
+use Rattle.std.specs.Prelude.{ℕ, ◌+◌, ◌*◌, ◌/◌, ◌%◌, ◌^◌, Bool, cond, ◌&&◌, ◌||◌, List, [], ◌∷◌, ◌++◌, length, ◌==◌, nat_lt, slice_index, Option, Some, None, Ok, Err}
+use Rattle.std.specs.List.{range_with_len}
 use Rattle.octets.specs.Places.{part}
 use Rattle.octets.specs.Numbers.{number, bytes_of}
 use Rattle.packets.specs.Path.{path_bytes}
 use Rattle.packets.specs.declared.path.Path.{Path}
-use Rattle.unit.specs.Fate.{or_else}
-use Rattle.unit.specs.declared.fate.Status.{Status}
-use Rattle.unit.specs.declared.fate.Status.TheVariants.{Success, NoSuchField, ReadOnlyField, PlainDeviceId}
+use Rattle.unit.specs.Fate.{Status, or_else}
+use Rattle.unit.specs.declared.fate.Offence.TheVariants.{NoSuchField, ReadOnlyField, PlainDeviceId}
 use Rattle.unit.specs.declared.fields.Right.{Right}
-use Rattle.unit.specs.declared.fields.Right.TheVariants.{Missing, ReadOnly, Swapped, Written}
+use Rattle.unit.specs.declared.fields.Right.TheVariants.{ReadOnly, Swapped, Written}
 use Rattle.unit.specs.declared.fields.Fields.{Fields}
 use Rattle.unit.specs.declared.owner.Owner.{Owner}
 
@@ -25,8 +25,7 @@ above application protocol set = application * 2 ^ 10 + protocol * 2 ^ 5 + set
 
 -- The fields named by an address and a count.
 abbrev pub named : ℕ → ℕ → List ℕ
-named address zero = []
-named address (suc count) = address ∷ named (address + 1) count
+named = range_with_len
 
 -- Our table, application 0: rows 0 to 10 are protocol 0, set 0, fields 0 to 10; rows 11 to 14 are protocol 1, set 0, fields 0 to 3. Every
 -- other field has row 15, and is missing.
@@ -50,34 +49,37 @@ row_of address =
 abbrev pub is_missing : ℕ → Bool
 is_missing address = row_of address == missing
 
--- All read-only save Device ID, changed only by compare-and-swap, and save what the owner writes: Time-Code counter and divider.
-abbrev pub row_right : ℕ → Right
-row_right row =
-    cond (row == missing) Missing
-    (cond (row == device_id) Swapped
-    (cond (row == time_code_counter || row == divider) Written
-    ReadOnly))
+abbrev pub row_in_table : ℕ → Option ℕ
+row_in_table address = cond (is_missing address) None (Some (row_of address))
 
-abbrev pub right_of : ℕ → Right
+-- All read-only save Device ID, changed only by compare-and-swap, and save what the owner writes: Time-Code counter and divider.
+abbrev pub row_right : ℕ → Option Right
+row_right row =
+    cond (row == missing) None
+    (Some (cond (row == device_id) Swapped
+    (cond (row == time_code_counter || row == divider) Written
+    ReadOnly)))
+
+abbrev pub right_of : ℕ → Option Right
 right_of address = row_right (row_of address)
 
 -- F2: write with a read-only field. F3: plain write to Device ID. (F1 goes before both.) The lowest field that offends decides.
-abbrev pub offence_of : Right → Status
-offence_of Missing = NoSuchField
-offence_of ReadOnly = ReadOnlyField
-offence_of Swapped = PlainDeviceId
-offence_of Written = Success
+abbrev pub offence_of : Option Right → Status
+offence_of None = Err NoSuchField
+offence_of (Some ReadOnly) = Err ReadOnlyField
+offence_of (Some Swapped) = Err PlainDeviceId
+offence_of (Some Written) = Ok tt
 
 abbrev pub write_offence : List ℕ → Status
-write_offence [] = Success
+write_offence [] = Ok tt
 write_offence (address ∷ rest) = or_else (offence_of (right_of address)) (write_offence rest)
 
 -- F2: RMW on a field other than Device ID.
-abbrev pub swap_offence : Right → Status
-swap_offence Missing = NoSuchField
-swap_offence ReadOnly = ReadOnlyField
-swap_offence Swapped = Success
-swap_offence Written = ReadOnlyField
+abbrev pub swap_offence : Option Right → Status
+swap_offence None = Err NoSuchField
+swap_offence (Some ReadOnly) = Err ReadOnlyField
+swap_offence (Some Swapped) = Ok tt
+swap_offence (Some Written) = Err ReadOnlyField
 
 -- A number in its place of a word, `width` bits from bit `low` on, and what a word holds in such a place.
 abbrev pub in_place : ℕ → ℕ → ℕ → ℕ

@@ -69,7 +69,7 @@ GrantedTo plan h path p m r =
     Granted plan.action p m × (fate_number plan.fate ≡ 20 → Answerable plan.action h path (byte_of plan.status) r)
 
 -- The same of what a ruling has planned.
-abbrev pub GrantedBy : Ruling → Path → ℕ → ℕ → ℕ → Type 0
-GrantedBy (Ends fate) path p m r = Unit
-GrantedBy (SetsTime t) path p m r = Unit
-GrantedBy (Planned h plan) path p m r = GrantedTo plan h path p m r
+abbrev pub GrantedBy : Ruling → ℕ → ℕ → ℕ → Type 0
+GrantedBy (Ends fate) p m r = Unit
+GrantedBy (SetsTime t) p m r = Unit
+GrantedBy (Planned c plan) p m r = GrantedTo plan c.header c.path p m r

@@ -1,6 +1,6 @@
 -- The plan for a command (document 01, 'Effects', 'Reply', 'Numbers a caller gets'): fate, status, what is to be done, and how long the
 -- reply is.
-use Rattle.std.specs.Prelude.{ℕ, ◌+◌, ◌/◌, min, cond, not, ◌&&◌, List, ◌==◌, nat_lt}
+use Rattle.std.specs.Prelude.{ℕ, ◌+◌, ◌/◌, min, cond, not, ◌&&◌, List, ◌==◌, nat_lt, Ok, Err}
 use Rattle.octets.specs.Places.{part}
 use Rattle.octets.specs.Numbers.{number}
 use Rattle.packets.specs.Instruction.{is_rmw, is_verified, is_incrementing, wants_reply, header_size}
@@ -12,10 +12,9 @@ use Rattle.packets.specs.declared.instruction.Kind.TheVariants.{Unused, Read, Re
 use Rattle.packets.specs.declared.header.Header.{Header}
 use Rattle.packets.specs.declared.path.Path.{Path}
 use Rattle.packets.specs.declared.reading.End.{End}
-use Rattle.unit.specs.Fate.{byte_of, is_success}
+use Rattle.unit.specs.Fate.{Status, byte_of, is_success}
 use Rattle.unit.specs.Given.{Arrived}
 use Rattle.unit.specs.Decide.{rmw_count, header_status, AtHand, all_at_hand, data_count, data_status_on}
-use Rattle.unit.specs.declared.fate.Status.{Status}
 use Rattle.unit.specs.declared.fate.Fate.{Fate}
 use Rattle.unit.specs.declared.fate.Fate.TheVariants.{NoRoom, NotObeyed, Obeyed, Replied}
 use Rattle.unit.specs.declared.decide.Action.{Action}
@@ -64,7 +63,8 @@ reply_count h = cond (is_rmw (kind_in h)) (rmw_count h) h.length
 
 -- No reply asked for: 18 obeyed, 17 refused with a status.
 abbrev pub unanswered_fate : Status → Fate
-unanswered_fate status = cond (is_success status) Obeyed (NotObeyed status)
+unanswered_fate (Ok done) = Obeyed
+unanswered_fate (Err offence) = NotObeyed offence
 
 -- A reply asked for: 20, or 3 where it is longer than the room. 3 goes before any effect.
 abbrev pub answered : Status → Action → ℕ → ℕ → Plan

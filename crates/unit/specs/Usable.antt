@@ -1,15 +1,13 @@
 -- When a unit is usable (document 01, 'Numbers a caller gets', 1).
-use Rattle.std.specs.Prelude.{ℕ, ◌^◌, Bool, true, not, ◌&&◌, nat_le, nat_lt}
+use Rattle.std.specs.Prelude.{ℕ, ◌^◌, Bool, true, Option, None, Some, not, ◌&&◌, nat_le, nat_lt}
 use Rattle.unit.specs.Some.{some}
-use Rattle.unit.specs.Windows.{meets, used}
-use Rattle.unit.specs.declared.windows.Question.TheVariants.{EndsPast}
-use Rattle.unit.specs.declared.clock.Waiting.{Waiting}
-use Rattle.unit.specs.declared.clock.Waiting.TheVariants.{NoValue, Value}
+use Rattle.unit.specs.Windows.{ends_past, used}
+use Rattle.unit.specs.declared.clock.Elapsed.{Elapsed}
 use Rattle.unit.specs.declared.unit.Unit.{Unit as TheUnit}
 
-abbrev pub fits_time : Waiting → Bool
-fits_time NoValue = true
-fits_time (Value w) = nat_lt w.value (2 ^ 56)
+abbrev pub fits_time : Option Elapsed → Bool
+fits_time None = true
+fits_time (Some w) = nat_lt w.value (2 ^ 56)
 
 -- Less the two memory causes: at most 16 windows; time number from F0 to FE; link count 1 to 31; ET and a waiting value below 2^56;
 -- last Time-Code at most 63; owner path at most 12; owner link at most 31.
@@ -27,4 +25,4 @@ usable_unit u =
 -- With a memory of a length from 1 to 65,536, past which no window ends.
 unfoldable pub usable : TheUnit → ℕ → Bool
 usable u memory =
-    nat_le 1 memory && nat_le memory 65536 && not (some (meets (EndsPast memory)) (used u.windows)) && usable_unit u
+    nat_le 1 memory && nat_le memory 65536 && not (some (ends_past memory) (used u.windows)) && usable_unit u

@@ -4,8 +4,6 @@ use Rattle.packets.specs.declared.instruction.Kind.{Kind}
 use Rattle.packets.specs.declared.instruction.Kind.TheVariants.{Unused, Read, ReadModifyWrite, Write}
 use Rattle.unit.specs.declared.windows.Window.{Window}
 use Rattle.unit.specs.declared.windows.Windows.{Windows}
-use Rattle.unit.specs.declared.windows.Question.{Question}
-use Rattle.unit.specs.declared.windows.Question.TheVariants.{EndsPast, Allows}
 
 -- A window holds a span if it starts at or below A and ends at or above A plus size, as whole numbers.
 abbrev pub holds : Window → ℕ → ℕ → Bool
@@ -18,10 +16,13 @@ has_right Read w = w.read
 has_right ReadModifyWrite w = w.read && w.write
 has_right Write w = w.write
 
--- What a window is asked: whether it ends past a memory; whether it holds a span with the right.
-abbrev pub meets : Question → Window → Bool
-meets (EndsPast memory) w = nat_lt memory w.end
-meets (Allows kind at size) w = holds w at size && has_right kind w
+-- Whether a window ends past a memory of that length.
+abbrev pub ends_past : ℕ → Window → Bool
+ends_past memory w = nat_lt memory w.end
+
+-- Whether it holds a span, with the right.
+abbrev pub allows : Kind → ℕ → ℕ → Window → Bool
+allows kind at size w = holds w at size && has_right kind w
 
 -- The windows in use.
 abbrev pub used : Windows → List Window

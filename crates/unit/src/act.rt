@@ -1,6 +1,6 @@
 // What is done: the reply written, memory stored to, the unit changed (document 01, 'Effects', 'Fields', 'Owner'). Memory is read and
 // written by way of gather and scatter alone.
-ghost use Rattle.std.specs.Prelude.{◌≡◌, ◌+◌, ◌^◌, ◌≤◌, min, [], length, replicate, slice_index};
+ghost use Rattle.std.specs.Prelude.{◌≡◌, ◌+◌, ◌*◌, ◌^◌, ◌≤◌, min, [], length, replicate, slice_index, take};
 ghost use Rattle.octets.specs.Places.{part, placed};
 ghost use Rattle.packets.specs.Reply.{replied};
 ghost use Rattle.unit.specs.Granted.{Readable, Storable, Gatherable, Answerable};
@@ -11,11 +11,14 @@ ghost use Rattle.unit.specs.Fields.{field_of, named, values_of, field_bytes};
 
 use crate::counters::counted;
 use crate::decide::{Action, Plan};
-use crate::fate::Fate;
+use crate::fate::{Fate, status_byte};
+use crate::fields::Named;
 use crate::memory::{gather, scatter};
+use crate::owner::Sender;
 use crate::unit::Unit;
 use crate::{clock, fields};
-use packets::{Header, Path};
+use octets::Octets;
+use packets::Command;
 
 // ---- the reply
 
@@ -23,79 +26,75 @@ use packets::{Header, Path};
 pub(crate) fn respond(
     plan: Plan,
     unit: Unit,
-    h: Header,
-    path: Path,
+    command: Command,
     link: u8,
     memory: &[u8],
     reply: &mut [u8],
 )
-    requires { Readable plan.action (length memory.now) × (fate_number plan.fate ≡ 20 → Answerable plan.action h path (byte_of plan.status) (length reply.old)) }
-    ensures { reply.new ≡ replied_to plan unit h path link (record { memory = memory.now; reply = reply.old }) }
+    requires { Readable plan.action (length memory.now) × (fate_number plan.fate ≡ 20 → Answerable plan.action command.header command.path (byte_of plan.status) (length reply.old)) }
+    ensures { reply.new ≡ replied_to plan unit command.header command.path link (record { memory = memory.now; reply = reply.old }) }
 {
-    let fate = plan.fate;
-    if fate.number() != 20 {
-        return;
-    }
-    let action = plan.action;
-    let status = plan.status;
-    answer(action, status.byte(), unit, h, path, link, memory, reply);
-}
-
-fn answer(
-    action: Action,
-    status: u8,
-    unit: Unit,
-    h: Header,
-    path: Path,
-    link: u8,
-    memory: &[u8],
-    reply: &mut [u8],
-)
-    requires { Readable action (length memory.now) × Answerable action h path status (length reply.old) }
-    ensures { reply.new ≡ replied path h status (data_for action unit link memory.now) reply.old }
-{
-    match action {
-        Action::Nothing => answer_nothing(status, h, path, reply),
-        Action::ReadMemory(at, count) => answer_memory(at, count, status, h, path, memory, reply),
-        Action::RepeatByte(at, count) => {
-            let byte = byte_at(memory, at, count);
-            packets::write_repeated_reply(path, h, status, byte, count, reply);
-        }
-        Action::Store(_, _, _) => answer_nothing(status, h, path, reply),
-        Action::StoreLast(_, _, _) => answer_nothing(status, h, path, reply),
-        Action::Combine(at, _, count) => answer_memory(at, count, status, h, path, memory, reply),
-        Action::ReadFields(address, count) => {
-            answer_fields(address, count, status, unit, h, path, link, reply);
-        }
-        Action::Swap(_, _) => {
-            let old = octets::bytes4(unit.owner.device);
-            packets::write_reply(path, h, status, &old, reply);
-        }
-        Action::WriteField(_, _) => answer_nothing(status, h, path, reply),
+    if let Fate::Replied(_) = plan.fate {
+        let to = Reply {
+            command,
+            status: status_byte(plan.status),
+        };
+        to.answer(plan.action, unit, link, memory, reply);
     }
 }
 
-fn answer_nothing(status: u8, h: Header, path: Path, reply: &mut [u8])
-    ensures { reply.new ≡ replied path h status [] reply.old }
-{
-    packets::write_reply(path, h, status, &[], reply);
+// A reply less its data: to which command, with which status.
+#[derive(Clone, Copy)]
+struct Reply {
+    command: Command,
+    status: u8,
 }
 
-// Bytes of memory are gathered into their place in the reply, which is then written around them.
-fn answer_memory(
-    at: usize,
-    count: usize,
-    status: u8,
-    h: Header,
-    path: Path,
-    memory: &[u8],
-    reply: &mut [u8],
-)
-    requires { (at + count ≤ length memory.now) × Gatherable count h path status (length reply.old) }
-    ensures { reply.new ≡ replied path h status (part at count memory.now) reply.old }
-{
-    gather(memory, at, count, reply, packets::data_place(path));
-    packets::write_reply_around(path, h, status, count as u32, reply);
+impl Reply {
+    fn answer(self, action: Action, unit: Unit, link: u8, memory: &[u8], out: &mut [u8])
+        requires { Readable action (length memory.now) × Answerable action self.command.header self.command.path self.status (length out.old) }
+        ensures { out.new ≡ replied self.command.path self.command.header self.status (data_for action unit link memory.now) out.old }
+    {
+        match action {
+            Action::Nothing
+            | Action::Store(_, _, _)
+            | Action::StoreLast(_, _, _)
+            | Action::WriteField(_, _) => self.write(&[], out),
+            Action::ReadMemory(at, count) | Action::Combine(at, _, count) => {
+                self.write_memory(memory, at, count, out);
+            }
+            Action::RepeatByte(at, count) => {
+                let Command { header, path } = self.command;
+                let byte = byte_at(memory, at, count);
+                packets::write_repeated_reply(path, header, self.status, byte, count, out);
+            }
+            Action::ReadFields(address, count) => {
+                let bytes = shown(unit, link, address, count);
+                self.write(&bytes[..4 * count], out);
+            }
+            Action::Swap(_, _) => {
+                let device: [u8; 4] = unit.owner.device.to_octets();
+                self.write(&device, out);
+            }
+        }
+    }
+
+    fn write(self, bytes: &[u8], out: &mut [u8])
+        ensures { out.new ≡ replied self.command.path self.command.header self.status bytes.now out.old }
+    {
+        let Command { header, path } = self.command;
+        packets::write_reply(path, header, self.status, bytes, out);
+    }
+
+    // Bytes of memory are gathered into their place in the reply, which is then written around them.
+    fn write_memory(self, memory: &[u8], at: usize, count: usize, out: &mut [u8])
+        requires { (at + count ≤ length memory.now) × Gatherable count self.command.header self.command.path self.status (length out.old) }
+        ensures { out.new ≡ replied self.command.path self.command.header self.status (part at count memory.now) out.old }
+    {
+        let Command { header, path } = self.command;
+        gather(memory, at, count, out, packets::data_place(path));
+        packets::write_reply_around(path, header, self.status, count as u32, out);
+    }
 }
 
 // The byte at a place of memory, which is to be repeated. Where that is 0 times, there may be none.
@@ -111,24 +110,13 @@ fn byte_at(memory: &[u8], at: usize, count: u32) -> u8
     byte[0]
 }
 
-fn answer_fields(
-    address: u32,
-    count: usize,
-    status: u8,
-    unit: Unit,
-    h: Header,
-    path: Path,
-    link: u8,
-    reply: &mut [u8],
-)
+// The fields from an address on, as they are read over that link, at the start of what can hold sixteen.
+fn shown(unit: Unit, link: u8, address: u32, count: usize) -> [u8; 64]
     requires { (count ≤ 16) × (field_of address + count ≤ 2 ^ 14) }
-    ensures { reply.new ≡ replied path h status (field_bytes (values_of unit.fields unit.owner unit.clock.last unit.links link) (named address count)) reply.old }
+    ensures { take (4 * count) result ≡ field_bytes (values_of unit.fields unit.owner unit.clock.last unit.links link) (named address count) }
 {
-    let clock = unit.clock;
-    let v = fields::values(unit.fields, unit.owner, clock.last, unit.links, link);
-    let bytes = fields::field_bytes(v, address, count);
-    let n = 4 * count;
-    packets::write_reply(path, h, status, &bytes[0..n], reply);
+    let v = fields::values(unit.fields, unit.owner, unit.clock.last, unit.links, link);
+    Named { address, count }.bytes(v)
 }
 
 // ---- memory
@@ -138,15 +126,15 @@ pub(crate) fn store(action: Action, packet: &[u8], memory: &mut [u8])
     ensures { memory.new ≡ stored action packet.now memory.old }
 {
     match action {
-        Action::Nothing => {}
-        Action::ReadMemory(_, _) => {}
-        Action::RepeatByte(_, _) => {}
+        Action::Nothing
+        | Action::ReadMemory(_, _)
+        | Action::RepeatByte(_, _)
+        | Action::ReadFields(_, _)
+        | Action::Swap(_, _)
+        | Action::WriteField(_, _) => {}
         Action::Store(at, from, count) => scatter(packet, from, count, memory, at),
         Action::StoreLast(at, from, count) => store_last(packet, from, count, memory, at),
         Action::Combine(at, from, count) => combine(packet, from, count, memory, at),
-        Action::ReadFields(_, _) => {}
-        Action::Swap(_, _) => {}
-        Action::WriteField(_, _) => {}
     }
 }
 
@@ -178,10 +166,8 @@ fn combine_with(packet: &[u8], from: usize, count: usize, read: &mut [u8])
     ensures { read.new ≡ placed 0 (combined (part 0 count read.old) (part from count packet.now) (part (from + count) count packet.now)) read.old }
 {
     let masks = from + count;
-    let mut i = 0;
-    while i < count {
+    for i in 0..count {
         read[i] = combine_byte(packet[masks + i], packet[from + i], read[i]);
-        i += 1;
     }
 }
 
@@ -193,23 +179,21 @@ fn combine_byte(mask: u8, byte: u8, read: u8) -> u8
 
 // ---- the unit
 
-// After an action of the sender with that initiator address, path and link.
-pub(crate) fn change(unit: Unit, action: Action, initiator: u8, path: Path, link: u8) -> Unit
-    ensures { result ≡ changed action unit initiator path link }
+// After an action of that sender.
+pub(crate) fn change(unit: Unit, action: Action, sender: Sender) -> Unit
+    ensures { result ≡ changed action unit sender.initiator sender.path sender.link }
 {
     match action {
-        Action::Nothing => unit,
-        Action::ReadMemory(_, _) => unit,
-        Action::RepeatByte(_, _) => unit,
-        Action::Store(_, _, _) => unit,
-        Action::StoreLast(_, _, _) => unit,
-        Action::Combine(_, _, _) => unit,
-        Action::ReadFields(_, _) => unit,
+        Action::Nothing
+        | Action::ReadMemory(_, _)
+        | Action::RepeatByte(_, _)
+        | Action::Store(_, _, _)
+        | Action::StoreLast(_, _, _)
+        | Action::Combine(_, _, _)
+        | Action::ReadFields(_, _) => unit,
         Action::Swap(new, expected) => {
-            let owner = unit.owner;
-            let mut u = unit;
-            u.owner = owner.swap(new, expected, initiator, path, link);
-            u
+            let owner = unit.owner.swap(new, expected, sender);
+            Unit { owner, ..unit }
         }
         Action::WriteField(address, word) => write_field(unit, address, word),
     }
@@ -219,25 +203,22 @@ pub(crate) fn change(unit: Unit, action: Action, initiator: u8, path: Path, link
 fn write_field(unit: Unit, address: u32, word: u32) -> Unit
     ensures { result ≡ field_written unit address word }
 {
-    let row = fields::row_of(address);
-    let mut u = unit;
-    if row == fields::TIME_CODE_COUNTER {
-        u.clock = clock::write_time_code(unit.clock, word);
-        return u;
+    match fields::row_of(address) {
+        Some(fields::TIME_CODE_COUNTER) => {
+            let clock = clock::write_time_code(unit.clock, word);
+            Unit { clock, ..unit }
+        }
+        Some(fields::DIVIDER) => {
+            let fields = fields::write_divider(unit.fields, word);
+            Unit { fields, ..unit }
+        }
+        _ => unit,
     }
-    if row == fields::DIVIDER {
-        u.fields = fields::write_divider(unit.fields, word);
-        return u;
-    }
-    u
 }
 
 pub(crate) fn count(unit: Unit, fate: Fate) -> Unit
     ensures { result ≡ counted_unit fate unit }
 {
-    let counters = unit.counters;
-    let c = counted(counters, fate);
-    let mut u = unit;
-    u.counters = c;
-    u
+    let counters = counted(unit.counters, fate);
+    Unit { counters, ..unit }
 }

@@ -1,15 +1,17 @@
 // The three calls on a unit (document 01, 'The terminal and its neighbours', 'Numbers a caller gets').
 ghost use Rattle.std.specs.Prelude.{◌≡◌, length};
 ghost use Rattle.unit.specs.Granted.{GrantedBy, GrantedTo};
-ghost use Rattle.unit.specs.Act.{counted_unit};
-ghost use Rattle.unit.specs.Calls.{without_reply as Calls·without_reply, acted, done, take_packet as Calls·take_packet, take_time_code as Calls·take_time_code, take_ticks as Calls·take_ticks};
+ghost use Rattle.unit.specs.Act.{counted_unit, with_clock};
+ghost use Rattle.unit.specs.Calls.{without_reply as Calls·without_reply, small_call as Calls·small_call, acted, done, take_packet as Calls·take_packet, take_time_code as Calls·take_time_code, take_ticks as Calls·take_ticks};
 
+use crate::clock::Clock;
 use crate::decide::Plan;
 use crate::fate::Fate;
-use crate::judging::{Judgement, Ruling, Sizes, judge_read};
+use crate::judging::{Arrived, Ruling, Sizes, judge_read};
+use crate::owner::Sender;
 use crate::unit::Unit;
 use crate::{act, clock};
-use packets::{End, Header, Path};
+use packets::{Command, End};
 
 // The unit after the call, what became of it, and how many bytes of the reply buffer are the reply.
 #[derive(Clone, Copy)]
@@ -34,33 +36,34 @@ pub fn take_packet(
         memory: memory.len(),
         reply: reply.len(),
     };
-    let bytes = packets::bare(packet);
-    let judgement = judge_read(unit, bytes, end, link, sizes);
-    carry_out(judgement, unit, bytes, link, memory, reply)
+    let packet = packets::bare(packet);
+    let arrived = Arrived { packet, end, link };
+    let ruling = judge_read(unit, arrived, sizes);
+    carry_out(ruling, unit, arrived, memory, reply)
 }
 
 // Takes a Time-Code: its low six bits.
 pub fn take_time_code(unit: Unit, byte: u8) -> Answer
     ensures { result ≡ Calls·take_time_code unit byte }
 {
-    if !unit.is_usable_alone() {
-        return without_reply(unit, Fate::Unusable);
-    }
-    let mut u = unit;
-    u.clock = clock::take_code(unit.clock, byte);
-    without_reply(u, Fate::TimeChanged)
+    small_call(unit, clock::take_code(unit.clock, byte))
 }
 
 // Takes a number of clock ticks.
 pub fn take_ticks(unit: Unit, ticks: u32) -> Answer
     ensures { result ≡ Calls·take_ticks unit ticks }
 {
+    small_call(unit, clock::add_ticks(unit.clock, ticks))
+}
+
+// A unit that is usable goes on with that clock.
+fn small_call(unit: Unit, clock: Clock) -> Answer
+    ensures { result ≡ Calls·small_call unit (with_clock unit clock) }
+{
     if !unit.is_usable_alone() {
         return without_reply(unit, Fate::Unusable);
     }
-    let mut u = unit;
-    u.clock = clock::add_ticks(unit.clock, ticks);
-    without_reply(u, Fate::TimeChanged)
+    without_reply(Unit { clock, ..unit }, Fate::TimeChanged)
 }
 
 // Without a reply, and counted or not.
@@ -81,28 +84,25 @@ fn ended(unit: Unit, fate: Fate) -> Answer
     without_reply(act::count(unit, fate), fate)
 }
 
-// Does what a packet was judged to come to, whose bytes these are.
+// Does what was judged that a packet comes to.
+// Kept: memory and reply buffer apart; handed on in a struct, what `follow` left of them was no longer tied to what this leaves (`returns-in-Planned`).
 fn carry_out(
-    judgement: Judgement,
+    ruling: Ruling,
     unit: Unit,
-    bytes: &[u8],
-    link: u8,
+    arrived: Arrived,
     memory: &mut [u8],
     reply: &mut [u8],
 ) -> Answer
-    requires { GrantedBy judgement.ruling judgement.path (length bytes.now) (length memory.old) (length reply.old) }
-    ensures { record { answer = result; memory = memory.new; reply = reply.new } ≡ done judgement unit bytes.now link (record { memory = memory.old; reply = reply.old }) }
+    requires { GrantedBy ruling (length arrived.packet.now) (length memory.old) (length reply.old) }
+    ensures { record { answer = result; memory = memory.new; reply = reply.new } ≡ done ruling unit arrived.entry.packet.now arrived.entry.link (record { memory = memory.old; reply = reply.old }) }
 {
-    let path = judgement.path;
-    let ruling = judgement.ruling;
     match ruling {
         Ruling::Ends(fate) => ended(unit, fate),
         Ruling::SetsTime(time) => {
-            let mut u = unit;
-            u.clock = clock::set_time(unit.clock, time);
-            ended(u, Fate::TimeTaken)
+            let clock = clock::set_time(unit.clock, time);
+            ended(Unit { clock, ..unit }, Fate::TimeTaken)
         }
-        Ruling::Planned(h, plan) => follow(plan, unit, h, path, bytes, link, memory, reply),
+        Ruling::Planned(command, plan) => follow(plan, unit, command, arrived, memory, reply),
     }
 }
 
@@ -110,24 +110,25 @@ fn carry_out(
 fn follow(
     plan: Plan,
     unit: Unit,
-    h: Header,
-    path: Path,
-    bytes: &[u8],
-    link: u8,
+    command: Command,
+    arrived: Arrived,
     memory: &mut [u8],
     reply: &mut [u8],
 ) -> Answer
-    requires { GrantedTo plan h path (length bytes.now) (length memory.old) (length reply.old) }
-    ensures { record { answer = result; memory = memory.new; reply = reply.new } ≡ acted plan unit h path bytes.now link (record { memory = memory.old; reply = reply.old }) }
+    requires { GrantedTo plan command.header command.path (length arrived.packet.now) (length memory.old) (length reply.old) }
+    ensures { record { answer = result; memory = memory.new; reply = reply.new } ≡ acted plan unit command.header command.path arrived.entry.packet.now arrived.entry.link (record { memory = memory.old; reply = reply.old }) }
 {
-    act::respond(plan, unit, h, path, link, memory, reply);
-    let action = plan.action;
-    act::store(action, bytes, memory);
-    let fate = plan.fate;
-    let changed = act::change(unit, action, h.initiator, path, link);
+    act::respond(plan, unit, command, arrived.link, memory, reply);
+    act::store(plan.action, arrived.packet, memory);
+    let sender = Sender {
+        initiator: command.header.initiator,
+        path: command.path,
+        link: arrived.link,
+    };
+    let changed = act::change(unit, plan.action, sender);
     Answer {
-        unit: act::count(changed, fate),
-        fate,
+        unit: act::count(changed, plan.fate),
+        fate: plan.fate,
         length: plan.length,
     }
 }

@@ -5,24 +5,18 @@ ghost use Rattle.unit.specs.Clock.{time_code_written, after_code, after_ticks, a
 use packets::{Time, When};
 
 // A time, seconds in 32 bits and their fraction in 24, with its epoch code.
-#[derive(Clone, Copy)]
+#[derive(Clone, Copy, Default)]
 pub struct Elapsed {
     pub value: u64,
     pub epoch: u8,
 }
 
-#[derive(Clone, Copy)]
-pub enum Waiting {
-    NoValue,
-    Value(Elapsed),
-}
-
-// The last Time-Code, ET, and a value that waits for the Time-Code's wrap.
-#[derive(Clone, Copy)]
+// The last Time-Code, ET, and a value that waits for the Time-Code's wrap, if one does.
+#[derive(Clone, Copy, Default)]
 pub struct Clock {
     pub last: u8,
     pub elapsed: Elapsed,
-    pub waiting: Waiting,
+    pub waiting: Option<Elapsed>,
 }
 
 // In ticks of ET: a second, half of one, and a step of the Time-Code, 64 of which are a second. Then how many values ET has.
@@ -42,18 +36,15 @@ pub(crate) fn set_time(clock: Clock, time: Time) -> Clock
         value: time.value,
         epoch: time.epoch,
     };
-    let elapsed = clock.elapsed;
-    let when = time.when;
-    match when {
+    match time.when {
         When::AtWrap => Clock {
-            last: clock.last,
-            elapsed,
-            waiting: Waiting::Value(sent),
+            waiting: Some(sent),
+            ..clock
         },
         When::AtOnce => Clock {
-            last: clock.last,
             elapsed: sent,
-            waiting: Waiting::NoValue,
+            waiting: None,
+            ..clock
         },
     }
 }
@@ -63,41 +54,31 @@ pub(crate) fn take_code(clock: Clock, byte: u8) -> Clock
     ensures { result ≡ after_code clock (byte % 2 ^ 6) }
 {
     let v = byte % 64;
-    let u = clock.last;
-    let elapsed = clock.elapsed;
-    let waiting = clock.waiting;
-    if (u == 63) & (v == 0) {
+    if (clock.last == 63) & (v == 0) {
         return Clock {
             last: v,
-            elapsed: wrapped(elapsed, waiting),
-            waiting: Waiting::NoValue,
+            elapsed: wrapped(clock.elapsed, clock.waiting),
+            waiting: None,
         };
     }
-    if v as u32 == u as u32 + 1 {
+    if v as u32 == clock.last as u32 + 1 {
         return Clock {
             last: v,
-            elapsed: with_fraction(elapsed, v),
-            waiting,
+            elapsed: with_fraction(clock.elapsed, v),
+            ..clock
         };
     }
-    Clock {
-        last: v,
-        elapsed,
-        waiting,
-    }
+    Clock { last: v, ..clock }
 }
 
 // A value that waits becomes ET; else ET goes to the nearest second.
-fn wrapped(elapsed: Elapsed, waiting: Waiting) -> Elapsed
+fn wrapped(elapsed: Elapsed, waiting: Option<Elapsed>) -> Elapsed
     ensures { result ≡ at_wrap elapsed waiting }
 {
-    match waiting {
-        Waiting::Value(value) => value,
-        Waiting::NoValue => Elapsed {
-            value: nearest_second(elapsed.value),
-            epoch: elapsed.epoch,
-        },
-    }
+    waiting.unwrap_or(Elapsed {
+        value: nearest_second(elapsed.value),
+        ..elapsed
+    })
 }
 
 // A second that is half over is taken to end with the wrap, since the oscillator is slow; one that is not, to begin with it, since the oscillator is fast.
@@ -118,23 +99,18 @@ fn with_fraction(elapsed: Elapsed, v: u8) -> Elapsed
 {
     Elapsed {
         value: elapsed.value / SECOND * SECOND + v as u64 * CODE,
-        epoch: elapsed.epoch,
+        ..elapsed
     }
 }
 
 pub(crate) fn add_ticks(clock: Clock, ticks: u32) -> Clock
     ensures { result ≡ after_ticks clock ticks }
 {
-    let before = clock.elapsed;
-    let waiting = clock.waiting;
-    Clock {
-        last: clock.last,
-        elapsed: Elapsed {
-            value: sum56(before.value, ticks),
-            epoch: before.epoch,
-        },
-        waiting,
-    }
+    let elapsed = Elapsed {
+        value: sum56(clock.elapsed.value, ticks),
+        ..clock.elapsed
+    };
+    Clock { elapsed, ..clock }
 }
 
 // A write to the Time-Code counter: a whole word of 0 resets it.
@@ -144,9 +120,7 @@ pub(crate) fn write_time_code(clock: Clock, word: u32) -> Clock
     if word != 0 {
         return clock;
     }
-    let mut c = clock;
-    c.last = 0;
-    c
+    Clock { last: 0, ..clock }
 }
 
 // Modulo 2^56.

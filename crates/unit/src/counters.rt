@@ -20,6 +20,6 @@ fn bumped(counters: [u32; 11], place: usize) -> [u32; 11]
     ensures { result ≡ bumped_at place counters }
 {
     let mut c = counters;
-    c[place] = std::num::wrapping_add_u32(c[place], 1);
+    c[place] = c[place].wrapping_add(1);
     c
 }

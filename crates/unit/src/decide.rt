@@ -1,6 +1,6 @@
 // What is to be done with a command (document 01, 'Reading a packet', 'Span', 'Fields'). It is decided before anything is touched, from
 // the unit less its counters and from the packet; what memory holds is not looked at.
-ghost use Rattle.std.specs.Prelude.{◌≡◌, ◌+◌, ◌^◌, ◌≤◌, true, length, ◌≢◌};
+ghost use Rattle.std.specs.Prelude.{◌≡◌, ◌+◌, ◌≤◌, true, length, ◌≢◌};
 ghost use Rattle.octets.specs.Crc.{crc as Crc·crc};
 ghost use Rattle.octets.specs.Numbers.{number};
 ghost use Rattle.octets.specs.Places.{part};
@@ -14,86 +14,157 @@ ghost use Rattle.unit.specs.Granted.{WordsThere};
 ghost use Rattle.unit.specs.Plan.{read_action as Plan·read_action, rmw_action as Plan·rmw_action, write_action as Plan·write_action, memory_action as Plan·memory_action, field_action as Plan·field_action};
 ghost use Rattle.unit.specs.Plan.{reply_count as Plan·reply_count, unanswered_fate, planned_for, decided_by_data, decided};
 
-use crate::fate::{Fate, Status};
-use crate::fields;
-use crate::owner::Owner;
+use crate::fate::{Fate, Offence, Status, status_byte};
+use crate::fields::{Named, swap_offence};
+use crate::judging::Arrived;
+use crate::owner::{Owner, Sender};
 use crate::unit::Unit;
-use crate::whole::smaller;
-use crate::windows::{Question, Windows, any_window};
-use packets::{End, Header, Instruction, Kind, Path};
+use crate::windows::Windows;
+use octets::Octets;
+use packets::{Command, End, Header, Instruction, Kind, Path};
 
 // ---- the first half: what the header decides
-//
-// The kind of a command is looked up once, in `decide`, and handed on; `kind` is that of the header beside it.
 
-// The checks that RMAP and plug-and-play share: unused type or code, key, logical address.
-fn opening_status(h: Header, kind: Kind, key: u8, logical: u8) -> Status
-    requires { kind ≡ kind_in h }
-    ensures { result ≡ Decide·opening_status h key logical }
-{
-    let i = h.instruction;
-    if i.packet_type() != 1 {
-        return Status::UnusedCode;
-    }
-    if kind.is_unused() {
-        return Status::UnusedCode;
-    }
-    if h.key != key {
-        return Status::WrongKey;
-    }
-    if (h.target != logical) & (h.target != 0xFE) {
-        return Status::WrongAddress;
-    }
-    Status::Success
+// What a command asks: its header, and its kind, which is looked up once.
+#[derive(Clone, Copy)]
+struct Asked {
+    header: Header,
+    kind: Kind,
+    ghost kind_is: { kind ≡ kind_in header },
 }
 
-// How many bytes of memory a command speaks of.
-fn span_size(h: Header, kind: Kind) -> u32
-    requires { kind ≡ kind_in h }
-    ensures { result ≡ Decide·span_size h }
-{
-    if kind.is_rmw() {
-        return h.length / 2;
+impl From<Header> for Asked {
+    ghost from_gives = { λ header asked. asked.header ≡ header };
+
+    fn from(header: Header) -> Asked {
+        Asked {
+            header,
+            kind: header.instruction.kind(),
+        }
     }
-    if h.instruction.is_incrementing() {
-        return h.length;
-    }
-    if h.length < 1 { 0 } else { 1 }
 }
 
-fn is_authorised(windows: Windows, h: Header, kind: Kind) -> bool
-    requires { kind ≡ kind_in h }
-    ensures { result ≡ Decide·is_authorised windows h }
-{
-    if h.extended != 0 {
-        return false;
+impl Asked {
+    // The checks that RMAP and plug-and-play share: unused type or code, key, logical address.
+    fn opening_status(self, key: u8, logical: u8) -> Status
+        ensures { result ≡ Decide·opening_status self.header key logical }
+    {
+        let h = self.header;
+        let i = h.instruction;
+        if i.packet_type() != 1 {
+            return Err(Offence::UnusedCode);
+        }
+        if self.kind == Kind::Unused {
+            return Err(Offence::UnusedCode);
+        }
+        if h.key != key {
+            return Err(Offence::WrongKey);
+        }
+        if (h.target != logical) & (h.target != 0xFE) {
+            return Err(Offence::WrongAddress);
+        }
+        Ok(())
     }
-    let size = span_size(h, kind);
-    any_window(windows, Question::Allows(kind, h.address, size))
-}
 
-// The checks of RMAP behind the opening.
-fn span_status(windows: Windows, h: Header, kind: Kind) -> Status
-    requires { kind ≡ kind_in h }
-    ensures { result ≡ Decide·span_status windows h }
-{
-    let i = h.instruction;
-    if kind.is_rmw() & ((8 < h.length) | (h.length % 2 != 0)) {
-        return Status::RmwLength;
+    // How many bytes of memory a command speaks of.
+    fn span_size(self) -> u32
+        ensures { result ≡ Decide·span_size self.header }
+    {
+        let h = self.header;
+        if self.kind == Kind::ReadModifyWrite {
+            return h.length / 2;
+        }
+        if h.instruction.is_incrementing() {
+            return h.length;
+        }
+        h.length.min(1)
     }
-    if !is_authorised(windows, h, kind) {
-        return Status::NotAuthorised;
+
+    fn is_authorised(self, windows: Windows) -> bool
+        ensures { result ≡ Decide·is_authorised windows self.header }
+    {
+        let h = self.header;
+        if h.extended != 0 {
+            return false;
+        }
+        let size = self.span_size();
+        windows.any_allows(self.kind, h.address, size)
     }
-    if i.is_write() & i.is_verified() & (1024 < h.length) {
-        return Status::VerifyOverrun;
+
+    // The checks of RMAP behind the opening.
+    fn span_status(self, windows: Windows) -> Status
+        ensures { result ≡ Decide·span_status windows self.header }
+    {
+        let h = self.header;
+        let i = h.instruction;
+        if (self.kind == Kind::ReadModifyWrite) & ((8 < h.length) | (h.length % 2 != 0)) {
+            return Err(Offence::RmwLength);
+        }
+        if !self.is_authorised(windows) {
+            return Err(Offence::NotAuthorised);
+        }
+        if i.is_write() & i.is_verified() & (1024 < h.length) {
+            return Err(Offence::VerifyOverrun);
+        }
+        Ok(())
     }
-    Status::Success
+
+    // Whether it is one of the commands that fields know.
+    fn names_fields(self) -> bool
+        ensures { result ≡ Decide·names_fields self.header }
+    {
+        let h = self.header;
+        let code = h.instruction.code();
+        (h.extended == 0)
+            & ((code == 0b1111) | (code == 0b0011) | (code == 0b0111))
+            & is_field_length(self.kind, h.length)
+            & (h.address % 0x4000 + field_count(self.kind, h.length) <= 0x4000)
+    }
+
+    // The checks of plug-and-play behind the opening.
+    fn fields_status(self, owner: Owner, path: Path, link: u8) -> Status
+        ensures { result ≡ Decide·fields_status owner self.header path link }
+    {
+        let h = self.header;
+        if !self.names_fields() {
+            return Err(Offence::NotAuthorised);
+        }
+        let named = Named {
+            address: h.address,
+            count: field_count(self.kind, h.length) as usize,
+        };
+        if named.any_missing() {
+            return Err(Offence::NoSuchField);
+        }
+        offence_in(self.kind, named)?;
+        let sender = Sender {
+            initiator: h.initiator,
+            path,
+            link,
+        };
+        if !is_allowed(self.kind, owner, sender) {
+            return Err(Offence::NotOwner);
+        }
+        Ok(())
+    }
+
+    fn header_status(self, unit: Unit, path: Path, link: u8) -> Status
+        ensures { result ≡ Decide·header_status unit self.header path link }
+    {
+        let h = self.header;
+        if h.protocol == 0x01 {
+            self.opening_status(unit.key, unit.logical)?;
+            return self.span_status(unit.windows);
+        }
+        self.opening_status(0x00, 0xFE)?;
+        self.fields_status(unit.owner, path, link)
+    }
 }
 
 fn is_field_length(kind: Kind, length: u32) -> bool
     ensures { result ≡ Decide·is_field_length kind length }
 {
-    if kind.is_rmw() {
+    if kind == Kind::ReadModifyWrite {
         return length == 8;
     }
     (length % 4 == 0) & (4 <= length) & (length <= 64)
@@ -103,119 +174,66 @@ fn is_field_length(kind: Kind, length: u32) -> bool
 fn field_count(kind: Kind, length: u32) -> u32
     ensures { result ≡ Decide·field_count kind length }
 {
-    if kind.is_rmw() {
+    if kind == Kind::ReadModifyWrite {
         return 1;
     }
     length / 4
 }
 
-// Whether it is one of the commands that fields know.
-fn names_fields(h: Header, kind: Kind) -> bool
-    requires { kind ≡ kind_in h }
-    ensures { result ≡ Decide·names_fields h }
-{
-    let code = h.instruction.code();
-    (h.extended == 0)
-        & ((code == 0b1111) | (code == 0b0011) | (code == 0b0111))
-        & is_field_length(kind, h.length)
-        & (h.address % 0x4000 + field_count(kind, h.length) <= 0x4000)
-}
-
 // What a command offends among the fields that it names, all of which are there.
-fn offence_in(kind: Kind, address: u32, count: usize) -> Status
-    requires { address + count ≤ 2 ^ 32 }
-    ensures { result ≡ Decide·offence_in kind address count }
+fn offence_in(kind: Kind, named: Named) -> Status
+    ensures { result ≡ Decide·offence_in kind named.address named.count }
 {
     match kind {
-        Kind::Unused => Status::Success,
-        Kind::Read => Status::Success,
-        Kind::ReadModifyWrite => fields::swap_offence(address),
-        Kind::Write => fields::write_offence(address, count),
+        Kind::Unused | Kind::Read => Ok(()),
+        Kind::ReadModifyWrite => swap_offence(named.address),
+        Kind::Write => named.write_offence(),
     }
 }
 
 // Whether the sender may: anyone reads; the owner writes; the owner swaps, and anyone where there is none.
-fn is_allowed(kind: Kind, owner: Owner, initiator: u8, path: Path, link: u8) -> bool
-    ensures { result ≡ Decide·is_allowed kind owner initiator path link }
+fn is_allowed(kind: Kind, owner: Owner, sender: Sender) -> bool
+    ensures { result ≡ Decide·is_allowed kind owner sender.initiator sender.path sender.link }
 {
     match kind {
-        Kind::Unused => true,
-        Kind::Read => true,
-        Kind::ReadModifyWrite => (owner.device == 0) | owner.is(initiator, path, link),
-        Kind::Write => owner.is(initiator, path, link),
+        Kind::Unused | Kind::Read => true,
+        Kind::ReadModifyWrite => (owner.device == 0) | owner.is(sender),
+        Kind::Write => owner.is(sender),
     }
-}
-
-// The checks of plug-and-play behind the opening.
-fn fields_status(owner: Owner, h: Header, kind: Kind, path: Path, link: u8) -> Status
-    requires { kind ≡ kind_in h }
-    ensures { result ≡ Decide·fields_status owner h path link }
-{
-    if !names_fields(h, kind) {
-        return Status::NotAuthorised;
-    }
-    let count = field_count(kind, h.length) as usize;
-    if fields::any_missing(h.address, count) {
-        return Status::NoSuchField;
-    }
-    let offence = offence_in(kind, h.address, count);
-    if !offence.is_success() {
-        return offence;
-    }
-    if !is_allowed(kind, owner, h.initiator, path, link) {
-        return Status::NotOwner;
-    }
-    Status::Success
-}
-
-fn header_status(unit: Unit, h: Header, kind: Kind, path: Path, link: u8) -> Status
-    requires { kind ≡ kind_in h }
-    ensures { result ≡ Decide·header_status unit h path link }
-{
-    if h.protocol == 0x01 {
-        let opening = opening_status(h, kind, unit.key, unit.logical);
-        if !opening.is_success() {
-            return opening;
-        }
-        return span_status(unit.windows, h, kind);
-    }
-    let opening = opening_status(h, kind, 0x00, 0xFE);
-    if !opening.is_success() {
-        return opening;
-    }
-    fields_status(unit.owner, h, kind, path, link)
 }
 
 // ---- the second half: what the data decide
 
-// How many bytes a command wants after its header.
-fn wanted_count(h: Header, kind: Kind) -> usize
-    requires { kind ≡ kind_in h }
-    ensures { result ≡ Decide·wanted_count h }
-{
-    if kind.is_read() {
-        return 0;
+impl Asked {
+    // How many bytes a command wants after its header.
+    fn wanted_count(self) -> usize
+        ensures { result ≡ Decide·wanted_count self.header }
+    {
+        let h = self.header;
+        if self.kind == Kind::Read {
+            return 0;
+        }
+        h.length as usize + 1
     }
-    h.length as usize + 1
 }
 
 // By the number k of bytes behind the header, and by their CRC.
 fn data_status(k: usize, crc: u8, wanted: usize, end: End) -> Status
     ensures { result ≡ Decide·data_status k crc wanted end }
 {
-    if !end.is_eop() {
-        return Status::EndedByEep;
+    if end != End::Eop {
+        return Err(Offence::EndedByEep);
     }
     if k < wanted {
-        return Status::EarlyEop;
+        return Err(Offence::EarlyEop);
     }
     if wanted < k {
-        return Status::TooMuchData;
+        return Err(Offence::TooMuchData);
     }
     if crc != 0 {
-        return Status::DataCrc;
+        return Err(Offence::DataCrc);
     }
-    Status::Success
+    Ok(())
 }
 
 // The CRC of the bytes behind a header, where it bears on the status: they ended by EOP, and as many came as are wanted. Elsewhere 0, which then gives
@@ -223,7 +241,7 @@ fn data_status(k: usize, crc: u8, wanted: usize, end: End) -> Status
 fn data_crc(bytes: &[u8], wanted: usize, end: End) -> u8
     ensures { Decide·data_status (length bytes.now) result wanted end ≡ Decide·data_status (length bytes.now) (Crc·crc bytes.now) wanted end }
 {
-    if !end.is_eop() {
+    if end != End::Eop {
         return 0;
     }
     if bytes.len() != wanted {
@@ -263,26 +281,107 @@ pub struct Plan {
     pub length: usize,
 }
 
-// What an RMAP command does that its header allows. `from` is where its data begin in the packet, k how many bytes come there.
-fn memory_action(h: Header, kind: Kind, status: Status, from: usize, k: usize) -> Action
-    requires { kind ≡ kind_in h }
-    ensures { result ≡ Plan·memory_action h status from k }
-{
-    let i = h.instruction;
-    let at = h.address as usize;
-    let n = h.length as usize;
-    match kind {
-        Kind::Unused => Action::Nothing,
-        Kind::Read => read_action(i, status, at, h.length),
-        Kind::ReadModifyWrite => rmw_action(status, at, from, n / 2),
-        Kind::Write => write_action(i, status, at, from, smaller(k, n)),
+impl Asked {
+    // What an RMAP command does that its header allows. `from` is where its data begin in the packet, k how many bytes come there.
+    fn memory_action(self, status: Status, from: usize, k: usize) -> Action
+        ensures { result ≡ Plan·memory_action self.header status from k }
+    {
+        let h = self.header;
+        let i = h.instruction;
+        let at = h.address as usize;
+        let n = h.length as usize;
+        match self.kind {
+            Kind::Unused => Action::Nothing,
+            Kind::Read => read_action(i, status, at, h.length),
+            Kind::ReadModifyWrite => rmw_action(status, at, from, n / 2),
+            Kind::Write => write_action(i, status, at, from, k.min(n)),
+        }
+    }
+
+    // What a plug-and-play command does that its header allows.
+    fn field_action(self, status: Status, bytes: &[u8], from: usize) -> Action
+        requires { is_success status ≡ true → WordsThere (kind_in self.header) from (length bytes.now) }
+        ensures { result ≡ Plan·field_action self.header status bytes.now from }
+    {
+        let h = self.header;
+        if status.is_err() {
+            return Action::Nothing;
+        }
+        match self.kind {
+            Kind::Unused => Action::Nothing,
+            Kind::Read => Action::ReadFields(h.address, h.length as usize / 4),
+            Kind::ReadModifyWrite => {
+                let new = word_at(bytes, from);
+                Action::Swap(new, word_at(bytes, from + 4))
+            }
+            Kind::Write => Action::WriteField(h.address, word_at(bytes, from)),
+        }
+    }
+
+    // How many bytes of data go with the reply to an obeyed command that has data.
+    fn reply_count(self) -> u32
+        ensures { result ≡ Plan·reply_count self.header }
+    {
+        let h = self.header;
+        if self.kind == Kind::ReadModifyWrite {
+            return h.length / 2;
+        }
+        h.length
+    }
+
+    // The plan for a command with a status. Where a reply is due that has no room, nothing is done at all.
+    fn planned(self, path: Path, status: Status, action: Action, room: usize) -> Plan
+        ensures { result ≡ planned_for self.header path status action room }
+    {
+        let h = self.header;
+        if !h.instruction.wants_reply() {
+            return Plan {
+                fate: unanswered(status),
+                status,
+                action,
+                length: 0,
+            };
+        }
+        let length = packets::reply_length(path, h, status_byte(status), self.reply_count());
+        if room < length {
+            return Plan {
+                fate: Fate::NoRoom,
+                status,
+                action: Action::Nothing,
+                length: 0,
+            };
+        }
+        Plan {
+            fate: Fate::Replied(status),
+            status,
+            action,
+            length,
+        }
+    }
+
+    // The second half, where the header allows the command: from its bytes, and the CRC of those behind the header.
+    fn decide_by_data(self, path: Path, bytes: &[u8], crc: u8, end: End, room: usize) -> Plan
+        requires whole { header_size self.header.instruction ≤ length bytes.now }
+        requires words { (self.header.protocol ≢ 0x01) → is_success (data_status_on self.header (record { bytes = bytes.now; came = length bytes.now; data_crc = crc }) end) ≡ true → WordsThere (kind_in self.header) (header_size self.header.instruction) (length bytes.now) }
+        ensures { result ≡ decided_by_data self.header path (record { bytes = bytes.now; came = length bytes.now; data_crc = crc }) (data_status_on self.header (record { bytes = bytes.now; came = length bytes.now; data_crc = crc }) end) room }
+    {
+        let h = self.header;
+        let from = h.instruction.header_size();
+        let k = bytes.len() - from;
+        let status = data_status(k, crc, self.wanted_count(), end);
+        if h.protocol == 0x01 {
+            let action = self.memory_action(status, from, k);
+            return self.planned(path, status, action, room);
+        }
+        let action = self.field_action(status, bytes, from);
+        self.planned(path, status, action, room)
     }
 }
 
 fn read_action(i: Instruction, status: Status, at: usize, count: u32) -> Action
     ensures { result ≡ Plan·read_action i status at count }
 {
-    if !status.is_success() {
+    if status.is_err() {
         return Action::Nothing;
     }
     if i.is_incrementing() {
@@ -294,7 +393,7 @@ fn read_action(i: Instruction, status: Status, at: usize, count: u32) -> Action
 fn rmw_action(status: Status, at: usize, from: usize, count: usize) -> Action
     ensures { result ≡ Plan·rmw_action status at from count }
 {
-    if !status.is_success() {
+    if status.is_err() {
         return Action::Nothing;
     }
     Action::Combine(at, from, count)
@@ -304,7 +403,7 @@ fn rmw_action(status: Status, at: usize, from: usize, count: usize) -> Action
 fn write_action(i: Instruction, status: Status, at: usize, from: usize, count: usize) -> Action
     ensures { result ≡ Plan·write_action i status at from count }
 {
-    if i.is_verified() & !status.is_success() {
+    if i.is_verified() & status.is_err() {
         return Action::Nothing;
     }
     if i.is_incrementing() {
@@ -313,128 +412,35 @@ fn write_action(i: Instruction, status: Status, at: usize, from: usize, count: u
     Action::StoreLast(at, from, count)
 }
 
-// What a plug-and-play command does that its header allows.
-fn field_action(h: Header, kind: Kind, status: Status, bytes: &[u8], from: usize) -> Action
-    requires { (kind ≡ kind_in h) × (is_success status ≡ true → WordsThere (kind_in h) from (length bytes.now)) }
-    ensures { result ≡ Plan·field_action h status bytes.now from }
-{
-    if !status.is_success() {
-        return Action::Nothing;
-    }
-    match kind {
-        Kind::Unused => Action::Nothing,
-        Kind::Read => Action::ReadFields(h.address, h.length as usize / 4),
-        Kind::ReadModifyWrite => {
-            let new = word_at(bytes, from);
-            Action::Swap(new, word_at(bytes, from + 4))
-        }
-        Kind::Write => Action::WriteField(h.address, word_at(bytes, from)),
-    }
-}
-
 fn word_at(bytes: &[u8], at: usize) -> u32
     requires { at + 4 ≤ length bytes.now }
     ensures { result ≡ number (part at 4 bytes.now) }
 {
-    octets::number4(bytes[at], bytes[at + 1], bytes[at + 2], bytes[at + 3])
-}
-
-// How many bytes of data go with the reply to an obeyed command that has data.
-fn reply_count(h: Header, kind: Kind) -> u32
-    requires { kind ≡ kind_in h }
-    ensures { result ≡ Plan·reply_count h }
-{
-    if kind.is_rmw() {
-        return h.length / 2;
-    }
-    h.length
-}
-
-// The plan for a command with a status. Where a reply is due that has no room, nothing is done at all.
-fn planned(h: Header, kind: Kind, path: Path, status: Status, action: Action, room: usize) -> Plan
-    requires { kind ≡ kind_in h }
-    ensures { result ≡ planned_for h path status action room }
-{
-    if !h.instruction.wants_reply() {
-        return Plan {
-            fate: unanswered(status),
-            status,
-            action,
-            length: 0,
-        };
-    }
-    let length = packets::reply_length(path, h, status.byte(), reply_count(h, kind));
-    if room < length {
-        return Plan {
-            fate: Fate::NoRoom,
-            status,
-            action: Action::Nothing,
-            length: 0,
-        };
-    }
-    Plan {
-        fate: Fate::Replied(status),
-        status,
-        action,
-        length,
-    }
+    u32::from_octets([bytes[at], bytes[at + 1], bytes[at + 2], bytes[at + 3]])
 }
 
 fn unanswered(status: Status) -> Fate
     ensures { result ≡ unanswered_fate status }
 {
-    if status.is_success() {
-        return Fate::Obeyed;
+    match status {
+        Ok(()) => Fate::Obeyed,
+        Err(offence) => Fate::NotObeyed(offence),
     }
-    Fate::NotObeyed(status)
-}
-
-// The second half, where the header allows the command: from the bytes at hand, how many came in all, and the CRC of those behind the header.
-fn decide_by_data(
-    h: Header,
-    kind: Kind,
-    path: Path,
-    bytes: &[u8],
-    came: usize,
-    crc: u8,
-    end: End,
-    room: usize,
-) -> Plan
-    requires kinds { kind ≡ kind_in h }
-    requires whole { header_size h.instruction ≤ came }
-    requires words { (h.protocol ≢ 0x01) → is_success (data_status_on h (record { bytes = bytes.now; came = came; data_crc = crc }) end) ≡ true → WordsThere (kind_in h) (header_size h.instruction) (length bytes.now) }
-    ensures { result ≡ decided_by_data h path (record { bytes = bytes.now; came = came; data_crc = crc }) (data_status_on h (record { bytes = bytes.now; came = came; data_crc = crc }) end) room }
-{
-    let from = h.instruction.header_size();
-    let k = came - from;
-    let status = data_status(k, crc, wanted_count(h, kind), end);
-    if h.protocol == 0x01 {
-        let action = memory_action(h, kind, status, from, k);
-        return planned(h, kind, path, status, action, room);
-    }
-    let action = field_action(h, kind, status, bytes, from);
-    planned(h, kind, path, status, action, room)
 }
 
 // Both halves, where all is at hand. The data are gone through only where their CRC bears on the status.
-pub(crate) fn decide(
-    unit: Unit,
-    h: Header,
-    path: Path,
-    packet: &[u8],
-    end: End,
-    link: u8,
-    room: usize,
-) -> Plan
-    requires { header_size h.instruction ≤ length packet.now }
-    ensures { result ≡ decided unit h path (record { packet = packet.now; end = end; link = link }) room }
+pub(crate) fn decide(unit: Unit, command: Command, arrived: Arrived, room: usize) -> Plan
+    requires { header_size command.header.instruction ≤ length arrived.packet.now }
+    ensures { result ≡ decided unit command.header command.path (record { packet = arrived.entry.packet.now; end = arrived.entry.end; link = arrived.entry.link }) room }
 {
-    let kind = h.instruction.kind();
-    let first = header_status(unit, h, kind, path, link);
-    if !first.is_success() {
-        return planned(h, kind, path, first, Action::Nothing, room);
+    let path = command.path;
+    let asked = Asked::from(command.header);
+    let first = asked.header_status(unit, path, arrived.link);
+    if first.is_err() {
+        return asked.planned(path, first, Action::Nothing, room);
     }
-    let from = h.instruction.header_size();
-    let crc = data_crc(&packet[from..], wanted_count(h, kind), end);
-    decide_by_data(h, kind, path, packet, packet.len(), crc, end, room)
+    let Arrived { packet, end, .. } = arrived;
+    let from = command.header.instruction.header_size();
+    let crc = data_crc(&packet[from..], asked.wanted_count(), end);
+    asked.decide_by_data(path, packet, crc, end, room)
 }

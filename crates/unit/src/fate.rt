@@ -1,28 +1,30 @@
 // The numbers a caller gets (document 01, 'Numbers a caller gets', 'Reading a packet' and 'Fields').
 ghost use Rattle.std.specs.Prelude.{◌≡◌};
-ghost use Rattle.unit.specs.Fate.{byte_of, is_success as Fate·is_success, fate_number, fate_status};
+ghost use Rattle.unit.specs.Fate.{byte_of, fate_number, fate_status};
 
 use packets::Refusal;
 
-// What a command is told: that it was obeyed, or the first check that it did not pass.
-#[derive(Clone, Copy)]
-pub enum Status {
-    Success,
-    UnusedCode,
-    WrongKey,
-    DataCrc,
-    EarlyEop,
-    TooMuchData,
-    EndedByEep,
-    VerifyOverrun,
-    NotAuthorised,
-    RmwLength,
-    WrongAddress,
-    NotOwner,
-    NoSuchField,
-    ReadOnlyField,
-    PlainDeviceId,
+// The first check that a command did not pass, by document 01's number.
+#[derive(Clone, Copy, PartialEq, Eq)]
+pub enum Offence {
+    UnusedCode = 2,
+    WrongKey = 3,
+    DataCrc = 4,
+    EarlyEop = 5,
+    TooMuchData = 6,
+    EndedByEep = 7,
+    VerifyOverrun = 9,
+    NotAuthorised = 10,
+    RmwLength = 11,
+    WrongAddress = 12,
+    NotOwner = 0xF0,
+    NoSuchField = 0xF1,
+    ReadOnlyField = 0xF2,
+    PlainDeviceId = 0xF3,
 }
+
+// What a command is told: that it was obeyed, or what it offends.
+pub type Status = Result<(), Offence>;
 
 // What became of a call.
 #[derive(Clone, Copy)]
@@ -33,47 +35,19 @@ pub enum Fate {
     NoRoom,
     Unread(Refusal),
     TimeThrownAway,
-    NotObeyed(Status),
+    NotObeyed(Offence),
     Obeyed,
     TimeTaken,
     Replied(Status),
 }
 
-// The status that a fate carries, if it carries one.
-#[derive(Clone, Copy)]
-pub enum Told {
-    Nothing,
-    Byte(u8),
-}
-
-impl Status {
-    // Document 01's number, as it stands in a reply.
-    pub fn byte(self) -> u8
-        ensures { result ≡ byte_of self }
-    {
-        match self {
-            Status::Success => 0,
-            Status::UnusedCode => 2,
-            Status::WrongKey => 3,
-            Status::DataCrc => 4,
-            Status::EarlyEop => 5,
-            Status::TooMuchData => 6,
-            Status::EndedByEep => 7,
-            Status::VerifyOverrun => 9,
-            Status::NotAuthorised => 10,
-            Status::RmwLength => 11,
-            Status::WrongAddress => 12,
-            Status::NotOwner => 0xF0,
-            Status::NoSuchField => 0xF1,
-            Status::ReadOnlyField => 0xF2,
-            Status::PlainDeviceId => 0xF3,
-        }
-    }
-
-    pub(crate) fn is_success(self) -> bool
-        ensures { result ≡ Fate·is_success self }
-    {
-        self.byte() == 0
+// Document 01's number of a status, as it stands in a reply.
+pub fn status_byte(status: Status) -> u8
+    ensures { result ≡ byte_of status }
+{
+    match status {
+        Ok(()) => 0,
+        Err(offence) => offence as u8,
     }
 }
 
@@ -97,20 +71,20 @@ impl Fate {
     }
 
     // Only 17, 18 and 20 carry a status.
-    pub fn status(self) -> Told
+    pub fn status(self) -> Option<u8>
         ensures { result ≡ fate_status self }
     {
         match self {
-            Fate::TimeChanged => Told::Nothing,
-            Fate::Unusable => Told::Nothing,
-            Fate::NoSuchLink => Told::Nothing,
-            Fate::NoRoom => Told::Nothing,
-            Fate::Unread(_) => Told::Nothing,
-            Fate::TimeThrownAway => Told::Nothing,
-            Fate::NotObeyed(status) => Told::Byte(status.byte()),
-            Fate::Obeyed => Told::Byte(0),
-            Fate::TimeTaken => Told::Nothing,
-            Fate::Replied(status) => Told::Byte(status.byte()),
+            Fate::NotObeyed(offence) => Some(status_byte(Err(offence))),
+            Fate::Obeyed => Some(0),
+            Fate::Replied(status) => Some(status_byte(status)),
+            Fate::TimeChanged
+            | Fate::Unusable
+            | Fate::NoSuchLink
+            | Fate::NoRoom
+            | Fate::Unread(_)
+            | Fate::TimeThrownAway
+            | Fate::TimeTaken => None,
         }
     }
 }

@@ -1,15 +1,16 @@
 // The fields of plug-and-play (document 01, 'Fields'; 000, 5.3.3 and 5.3.4).
 ghost use Rattle.std.specs.Prelude.{◌≡◌, ◌+◌, ◌*◌, ◌^◌, ◌≤◌, take};
 ghost use Rattle.unit.specs.Some.{some};
-ghost use Rattle.unit.specs.Fields.{named, row_of as Fields·row_of, is_missing, right_of as Fields·right_of, offence_of as Fields·offence_of, write_offence as Fields·write_offence, swap_offence as Fields·swap_offence};
-ghost use Rattle.unit.specs.Fields.{link_information as Fields·link_information, path_words as Fields·path_words, values_of, field_bytes as Fields·field_bytes, divider_written};
+ghost use Rattle.unit.specs.Fields.{named, row_in_table, is_missing, right_of as Fields·right_of, offence_of as Fields·offence_of, write_offence as Fields·write_offence, swap_offence as Fields·swap_offence};
+ghost use Rattle.unit.specs.Fields.{link_information as Fields·link_information, path_words as Fields·path_words, values_of, field_bytes, divider_written};
 
-use crate::fate::Status;
+use crate::fate::{Offence, Status};
 use crate::owner::Owner;
+use octets::Octets;
 use packets::Path;
 
 // The values as held. What a read shows of the owner, the links and the Time-Code is not held here.
-#[derive(Clone, Copy)]
+#[derive(Clone, Copy, Default)]
 pub struct Fields {
     // Protocol 0: vendor and product, version, status, Active Links, Link Information, unit vendor and product, unit serial.
     pub vendor: u32,
@@ -25,18 +26,17 @@ pub struct Fields {
     pub divider: u32,
 }
 
-// What may be done with a field besides reading it; nothing at all where it is missing from our table.
+// What may be done with a field of our table besides reading it.
 #[derive(Clone, Copy)]
 pub(crate) enum Right {
-    Missing,
     ReadOnly,
     Swapped,
     Written,
 }
 
 // The right to each field of our table, the companion of the table of command codes: protocol 0, set 0, fields 0 to 10; then protocol 1, set
-// 0, fields 0 to 3. The last row is for every field that is not there.
-const RIGHTS: [Right; 16] = [
+// 0, fields 0 to 3.
+const RIGHTS: [Right; 15] = [
     Right::ReadOnly,
     Right::ReadOnly,
     Right::ReadOnly,
@@ -52,7 +52,6 @@ const RIGHTS: [Right; 16] = [
     Right::ReadOnly,
     Right::ReadOnly,
     Right::Written,
-    Right::Missing,
 ];
 
 // Rows of our table that are named.
@@ -60,86 +59,52 @@ pub(crate) const TIME_CODE_COUNTER: usize = 11;
 
 pub(crate) const DIVIDER: usize = 14;
 
+// Kept: `values_of` has a row behind the table, for what a field that is not there would read.
 const MISSING: usize = 15;
 
-// The row of a field in our table, by its address: application, protocol and set are what is above the lowest 14 bits.
-pub(crate) fn row_of(address: u32) -> usize
-    ensures answers { result ≡ Fields·row_of address }
-    ensures small { result ≤ 15 }
+// The row of a field, by its address, if it is in our table: application, protocol and set are what is above the lowest 14 bits.
+pub(crate) fn row_of(address: u32) -> Option<usize>
+    ensures { result ≡ row_in_table address }
 {
     let set = address / 0x4000;
     let field = (address % 0x4000) as usize;
     if (set == 0) & (field < 11) {
-        return field;
+        return Some(field);
     }
     if (set == 0x20) & (field < 4) {
-        return 11 + field;
+        return Some(11 + field);
     }
-    MISSING
+    None
 }
 
-// Whether one of the `count` fields from an address on is not in our table.
-pub(crate) fn any_missing(address: u32, count: usize) -> bool
-    requires { address + count ≤ 2 ^ 32 }
-    ensures { result ≡ some is_missing (named address count) }
-{
-    let mut i = 0;
-    while i < count {
-        let missing = row_of(address + i as u32) == MISSING;
-        if missing {
-            return true;
-        }
-        i += 1;
-    }
-    false
-}
-
-fn right_of(address: u32) -> Right
+fn right_of(address: u32) -> Option<Right>
     ensures { result ≡ Fields·right_of address }
 {
-    let row = row_of(address);
-    RIGHTS[row]
+    let row = row_of(address)?;
+    Some(RIGHTS[row])
 }
 
 // What a plain write to a field offends.
 fn offence_of(address: u32) -> Status
     ensures { result ≡ Fields·offence_of (Fields·right_of address) }
 {
-    let right = right_of(address);
-    match right {
-        Right::Missing => Status::NoSuchField,
-        Right::ReadOnly => Status::ReadOnlyField,
-        Right::Swapped => Status::PlainDeviceId,
-        Right::Written => Status::Success,
+    match right_of(address) {
+        None => Err(Offence::NoSuchField),
+        Some(Right::ReadOnly) => Err(Offence::ReadOnlyField),
+        Some(Right::Swapped) => Err(Offence::PlainDeviceId),
+        Some(Right::Written) => Ok(()),
     }
-}
-
-// Of a plain write to `count` fields, the lowest that offends decides.
-pub(crate) fn write_offence(address: u32, count: usize) -> Status
-    requires { address + count ≤ 2 ^ 32 }
-    ensures { result ≡ Fields·write_offence (named address count) }
-{
-    let mut i = 0;
-    while i < count {
-        let status = offence_of(address + i as u32);
-        if !status.is_success() {
-            return status;
-        }
-        i += 1;
-    }
-    Status::Success
 }
 
 // Only Device ID is swapped.
 pub(crate) fn swap_offence(address: u32) -> Status
     ensures { result ≡ Fields·swap_offence (Fields·right_of address) }
 {
-    let right = right_of(address);
-    match right {
-        Right::Missing => Status::NoSuchField,
-        Right::ReadOnly => Status::ReadOnlyField,
-        Right::Swapped => Status::Success,
-        Right::Written => Status::ReadOnlyField,
+    match right_of(address) {
+        None => Err(Offence::NoSuchField),
+        Some(Right::ReadOnly) => Err(Offence::ReadOnlyField),
+        Some(Right::Swapped) => Ok(()),
+        Some(Right::Written) => Err(Offence::ReadOnlyField),
     }
 }
 
@@ -165,9 +130,9 @@ fn path_words(path: Path) -> [u32; 3]
 {
     let p = path.bytes;
     [
-        octets::number4(p[0], p[1], p[2], p[3]),
-        octets::number4(p[4], p[5], p[6], p[7]),
-        octets::number4(p[8], p[9], p[10], p[11]),
+        u32::from_octets([p[0], p[1], p[2], p[3]]),
+        u32::from_octets([p[4], p[5], p[6], p[7]]),
+        u32::from_octets([p[8], p[9], p[10], p[11]]),
     ]
 }
 
@@ -196,20 +161,51 @@ pub(crate) fn values(fields: Fields, owner: Owner, last: u8, links: u8, link: u8
     ]
 }
 
-// The values of the `count` fields from an address on, at the start of what can hold sixteen.
-pub(crate) fn field_bytes(values: [u32; 16], address: u32, count: usize) -> [u8; 64]
-    requires { (count ≤ 16) × (address + count ≤ 2 ^ 32) }
-    ensures { take (4 * count) result ≡ Fields·field_bytes values (named address count) }
-{
-    let mut out = [0u8; 64];
-    let mut i = 0;
-    while i < count {
-        let row = row_of(address + i as u32);
-        let word = octets::bytes4(values[row]);
-        octets::copy_part(&word, 0, 4, &mut out, 4 * i);
-        i += 1;
+// The fields that a command names: `count` of them, from an address on. The last one has an address too.
+#[derive(Clone, Copy)]
+pub(crate) struct Named {
+    pub address: u32,
+    pub count: usize,
+    ghost last: { address + count ≤ 2 ^ 32 },
+}
+
+impl Named {
+    // Whether one of them is not in our table.
+    pub(crate) fn any_missing(self) -> bool
+        ensures { result ≡ some is_missing (named self.address self.count) }
+    {
+        for i in 0..self.count {
+            let missing = row_of(self.address + i as u32) == None;
+            if missing {
+                return true;
+            }
+        }
+        false
     }
-    out
+
+    // Of a plain write to them, the lowest that offends decides.
+    pub(crate) fn write_offence(self) -> Status
+        ensures { result ≡ Fields·write_offence (named self.address self.count) }
+    {
+        for i in 0..self.count {
+            offence_of(self.address + i as u32)?;
+        }
+        Ok(())
+    }
+
+    // Their values, at the start of what can hold sixteen.
+    pub(crate) fn bytes(self, values: [u32; 16]) -> [u8; 64]
+        requires { self.count ≤ 16 }
+        ensures { take (4 * self.count) result ≡ field_bytes values (named self.address self.count) }
+    {
+        let mut out = [0u8; 64];
+        for i in 0..self.count {
+            let row = row_of(self.address + i as u32).unwrap_or(MISSING);
+            let word: [u8; 4] = values[row].to_octets();
+            octets::copy_part(&word, 0, 4, &mut out, 4 * i);
+        }
+        out
+    }
 }
 
 // A write to the divider: its low half is taken where it lies in the range.

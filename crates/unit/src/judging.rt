@@ -1,18 +1,14 @@
 // What a packet comes to, judged before anything is touched (document 01, 'Numbers a caller gets', 'Reading a packet'): by the unit less its counters,
 // by what arrived, as it is read, and by the sizes of what is lent. What memory holds is not looked at.
-ghost use Rattle.std.specs.Prelude.{◌≡◌, ◌≤◌, length};
-ghost use Rattle.packets.specs.Instruction.{header_size};
+ghost use Rattle.std.specs.Prelude.{◌≡◌};
 ghost use Rattle.packets.specs.Time.{read_time};
-ghost use Rattle.packets.specs.declared.header.Header.{Header as Header-as-Header};
-ghost use Rattle.packets.specs.declared.reading.Reading.TheVariants.{Command};
 ghost use Rattle.unit.specs.Given.{as_read};
-ghost use Rattle.unit.specs.Judge.{time_ruling as Judge·time_ruling, ruling_on as Judge·ruling_on, judged};
-ghost use Rattle.unit.specs.Judge.{outright as Judge·outright};
+ghost use Rattle.unit.specs.Judge.{time_ruling as Judge·time_ruling, judged};
 
 use crate::decide::{Plan, decide};
 use crate::fate::Fate;
 use crate::unit::Unit;
-use packets::{End, Header, Path, Reading, Time, TimeReading};
+use packets::{Command, End, Packet, Time};
 
 // How long memory and reply buffer are.
 #[derive(Clone, Copy)]
@@ -29,72 +25,41 @@ pub enum Ruling {
     // It is a time packet that is taken: 19.
     SetsTime(Time),
     // It is a command, and this is the plan for it: 3, 17, 18, 20.
-    Planned(Header, Plan),
+    Planned(Command, Plan),
 }
 
-// The path is that of a command's reply address; any other packet has none.
+// What arrived, as it is read: a packet without its end, the end, and the link that it came on.
 #[derive(Clone, Copy)]
-pub struct Judgement {
-    pub ruling: Ruling,
-    pub path: Path,
+pub(crate) struct Arrived<'a> {
+    pub packet: &'a [u8],
+    pub end: End,
+    pub link: u8,
 }
 
 // Judges a packet, without its end, that came on a link, with memory and a reply buffer of those sizes.
-pub fn judge(unit: Unit, packet: &[u8], end: End, link: u8, sizes: Sizes) -> Judgement
+pub fn judge(unit: Unit, packet: &[u8], end: End, link: u8, sizes: Sizes) -> Ruling
     ensures { result ≡ judged unit (as_read (record { packet = packet.now; end = end; link = link })) sizes }
 {
-    let bytes = packets::bare(packet);
-    judge_read(unit, bytes, end, link, sizes)
+    let packet = packets::bare(packet);
+    judge_read(unit, Arrived { packet, end, link }, sizes)
 }
 
 // Judges a packet as it is read.
-pub(crate) fn judge_read(unit: Unit, packet: &[u8], end: End, link: u8, sizes: Sizes) -> Judgement
-    ensures { result ≡ judged unit (record { packet = packet.now; end = end; link = link }) sizes }
+pub(crate) fn judge_read(unit: Unit, arrived: Arrived, sizes: Sizes) -> Ruling
+    ensures { result ≡ judged unit (record { packet = arrived.entry.packet.now; end = arrived.entry.end; link = arrived.entry.link }) sizes }
 {
     if !unit.is_usable(sizes.memory) {
-        return outright(Fate::Unusable);
+        return Ruling::Ends(Fate::Unusable);
     }
-    if !((1 <= link) & (link <= unit.links)) {
-        return outright(Fate::NoSuchLink);
+    if !((1 <= arrived.link) & (arrived.link <= unit.links)) {
+        return Ruling::Ends(Fate::NoSuchLink);
     }
-    let read = packets::read_packet(packet, unit.number);
-    let path = read.path;
-    let reading = read.reading;
-    Judgement {
-        ruling: ruling_on(reading, path, unit, packet, end, link, sizes),
-        path,
-    }
-}
-
-// Without a look at the packet.
-fn outright(fate: Fate) -> Judgement
-    ensures { result ≡ Judge·outright fate }
-{
-    Judgement {
-        ruling: Ruling::Ends(fate),
-        path: Path::none(),
-    }
-}
-
-// By what it was read as. The header of a command is whole.
-fn ruling_on(
-    reading: Reading,
-    path: Path,
-    unit: Unit,
-    packet: &[u8],
-    end: End,
-    link: u8,
-    sizes: Sizes,
-) -> Ruling
-    requires { (h : Header-as-Header) → reading ≡ Command h → header_size h.instruction ≤ length packet.now }
-    ensures { result ≡ Judge·ruling_on reading path unit (record { packet = packet.now; end = end; link = link }) sizes }
-{
-    match reading {
-        Reading::Refused(why) => Ruling::Ends(Fate::Unread(why)),
-        Reading::Time => time_ruling(unit, packet, end),
-        Reading::Command(h) => {
-            let plan = decide(unit, h, path, packet, end, link, sizes.reply);
-            Ruling::Planned(h, plan)
+    match packets::read_packet(arrived.packet, unit.number) {
+        Err(why) => Ruling::Ends(Fate::Unread(why)),
+        Ok(Packet::Time) => time_ruling(unit, arrived.packet, arrived.end),
+        Ok(Packet::Command(command)) => {
+            let plan = decide(unit, command, arrived, sizes.reply);
+            Ruling::Planned(command, plan)
         }
     }
 }
@@ -103,9 +68,8 @@ fn ruling_on(
 fn time_ruling(unit: Unit, packet: &[u8], end: End) -> Ruling
     ensures { result ≡ Judge·time_ruling (read_time packet.now end unit.logical unit.number) }
 {
-    let reading = packets::read_time(packet, end, unit.logical, unit.number);
-    match reading {
-        TimeReading::ThrownAway => Ruling::Ends(Fate::TimeThrownAway),
-        TimeReading::Taken(time) => Ruling::SetsTime(time),
+    match packets::read_time(packet, end, unit.logical, unit.number) {
+        None => Ruling::Ends(Fate::TimeThrownAway),
+        Some(time) => Ruling::SetsTime(time),
     }
 }

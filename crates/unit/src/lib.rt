@@ -17,15 +17,14 @@ mod judging;
 mod memory;
 mod owner;
 mod unit;
-mod whole;
 mod windows;
 
 pub use calls::{Answer, take_packet, take_ticks, take_time_code};
-pub use clock::{Clock, Elapsed, Waiting};
+pub use clock::{Clock, Elapsed};
 pub use decide::{Action, Plan};
-pub use fate::{Fate, Status, Told};
+pub use fate::{Fate, Offence, Status, status_byte};
 pub use fields::Fields;
-pub use judging::{Judgement, Ruling, Sizes, judge};
+pub use judging::{Ruling, Sizes, judge};
 pub use owner::Owner;
 pub use unit::Unit;
 pub use windows::{Window, Windows};

@@ -13,7 +13,16 @@ pub struct Owner {
     pub link: u8,
 }
 
+// Who sent a command, as far as the unit can tell.
+#[derive(Clone, Copy)]
+pub(crate) struct Sender {
+    pub initiator: u8,
+    pub path: Path,
+    pub link: u8,
+}
+
 impl Owner {
+    // Kept: a derived Default says of the path only that each of its twelve bytes is 0, and `default ≡ unowned` didn't close.
     fn none() -> Owner
         ensures { result ≡ unowned }
     {
@@ -26,43 +35,46 @@ impl Owner {
     }
 
     // Whether the sender of a command is the owner.
-    pub(crate) fn is(self, initiator: u8, path: Path, link: u8) -> bool
-        ensures { result ≡ is_owner self initiator path link }
+    pub(crate) fn is(self, sender: Sender) -> bool
+        ensures { result ≡ is_owner self sender.initiator sender.path sender.link }
     {
-        let kept = self.path;
-        let by_path = kept.same(path);
-        (self.device != 0) & (self.initiator == initiator) & by_path & (self.link == link)
+        (self.device != 0)
+            & (self.initiator == sender.initiator)
+            & (self.path == sender.path)
+            & (self.link == sender.link)
     }
 
     // After a swap of Device ID that is allowed.
-    pub(crate) fn swap(self, new: u32, expected: u32, initiator: u8, path: Path, link: u8) -> Owner
-        ensures { result ≡ swapped self new expected initiator path link }
+    pub(crate) fn swap(self, new: u32, expected: u32, sender: Sender) -> Owner
+        ensures { result ≡ swapped self new expected sender.initiator sender.path sender.link }
     {
         if self.device != expected {
             return self;
         }
         if self.device == 0 {
-            return self.claim(new, initiator, path, link);
+            return self.claim(new, sender);
         }
         if new == 0 {
             return Owner::none();
         }
-        let kept = self.path;
         Owner {
             device: new,
-            initiator: self.initiator,
-            path: kept,
-            link: self.link,
+            ..self
         }
     }
 
     // From 0 to a value: a claim. From 0 to 0 nothing changes.
-    fn claim(self, new: u32, initiator: u8, path: Path, link: u8) -> Owner
-        ensures { result ≡ claimed self new initiator path link }
+    fn claim(self, new: u32, sender: Sender) -> Owner
+        ensures { result ≡ claimed self new sender.initiator sender.path sender.link }
     {
         if new == 0 {
             return self;
         }
+        let Sender {
+            initiator,
+            path,
+            link,
+        } = sender;
         Owner {
             device: new,
             initiator,

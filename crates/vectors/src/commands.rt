@@ -1,7 +1,7 @@
 // Packets that are read, and replies that are written.
 use crate::edges;
 use console::{Row, say};
-use packets::{Header, Path, Reading};
+use packets::{Command, Header, Packet, Path};
 
 // The time number of the unit that would read them.
 const NUMBER: u8 = 0xf0;
@@ -13,14 +13,13 @@ pub(crate) fn bare(name: &[u8], packet: &[u8]) {
 
 // A packet, read to its parts and its path, or to the number of its refusal.
 pub(crate) fn read(name: &[u8], packet: &[u8]) {
-    let p = packets::read_packet(packet, NUMBER);
-    match p.reading {
-        Reading::Command(header) => {
-            parts(name, header);
-            say!(" path:{}\n", Row(used(&p.path)));
+    match packets::read_packet(packet, NUMBER) {
+        Ok(Packet::Command(c)) => {
+            parts(name, c.header);
+            say!(" path:{}\n", Row(used(&c.path)));
         }
-        Reading::Refused(why) => say!(name; ": {}\n", why.number()),
-        Reading::Time => say!(name; ": time\n"),
+        Ok(Packet::Time) => say!(name; ": time\n"),
+        Err(why) => say!(name; ": {}\n", why.number()),
     }
 }
 
@@ -45,13 +44,14 @@ pub(crate) fn address(name: &[u8], packet: &[u8]) {
     say!(name; " path:{}\n", Row(used(&path_of(packet))));
 }
 
+// The path of a command. Anything else has none.
 fn path_of(packet: &[u8]) -> Path {
-    packets::read_packet(packet, NUMBER).path
+    command(packet).map_or(Path::none(), |c| c.path)
 }
 
 // Whether two commands have one path.
 pub(crate) fn same(name: &[u8], first: &[u8], second: &[u8]) {
-    if path_of(first).same(path_of(second)) {
+    if path_of(first) == path_of(second) {
         say!(name; ": one\n");
     } else {
         say!(name; ": two\n");
@@ -60,49 +60,43 @@ pub(crate) fn same(name: &[u8], first: &[u8], second: &[u8]) {
 
 // The reply to a command, written into a buffer of `room` bytes (at most 400), each of them ee before.
 pub(crate) fn reply(name: &[u8], packet: &[u8], status: u8, room: usize, bytes: &[u8]) {
-    written(name, packet, room, |path, header, out| {
-        packets::write_reply(path, header, status, bytes, out)
+    written(name, packet, room, |c, out| {
+        packets::write_reply(c.path, c.header, status, bytes, out)
     });
 }
 
 // The same, where the data are one byte, `count` times over.
 pub(crate) fn repeated(name: &[u8], packet: &[u8], status: u8, room: usize, byte: u8, count: u32) {
-    written(name, packet, room, |path, header, out| {
-        packets::write_repeated_reply(path, header, status, byte, count, out)
+    written(name, packet, room, |c, out| {
+        packets::write_repeated_reply(c.path, c.header, status, byte, count, out)
     });
 }
 
 // The reply around data that are in their place already: `count` bytes of the buffer itself.
 pub(crate) fn around(name: &[u8], packet: &[u8], status: u8, room: usize, count: u32) {
-    written(name, packet, room, |path, header, out| {
-        packets::write_reply_around(path, header, status, count, out)
+    written(name, packet, room, |c, out| {
+        packets::write_reply_around(c.path, c.header, status, count, out)
     });
 }
 
 // What a way to write the reply answers, and the buffer after it.
-fn written<F: FnOnce(Path, Header, &mut [u8]) -> bool>(
-    name: &[u8],
-    packet: &[u8],
-    room: usize,
-    write: F,
-)
+fn written<F: FnOnce(Command, &mut [u8]) -> bool>(name: &[u8], packet: &[u8], room: usize, write: F)
     requires { F.IsAlwaysCallable write }
 {
     let mut space = [0xeeu8; 400];
     let out = &mut space[..room % 401];
     match command(packet) {
-        Some((path, header)) => {
-            let did = write(path, header, out);
+        Some(c) => {
+            let did = write(c, out);
             edges::outcome(name, did, out);
         }
         None => say!("no command\n"),
     }
 }
 
-fn command(packet: &[u8]) -> Option<(Path, Header)> {
-    let p = packets::read_packet(packet, NUMBER);
-    match p.reading {
-        Reading::Command(header) => Some((p.path, header)),
-        Reading::Refused(_) | Reading::Time => None,
+fn command(packet: &[u8]) -> Option<Command> {
+    match packets::read_packet(packet, NUMBER) {
+        Ok(Packet::Command(c)) => Some(c),
+        Ok(Packet::Time) | Err(_) => None,
     }
 }

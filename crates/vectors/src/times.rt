@@ -1,6 +1,6 @@
 // Time packets.
 use console::say;
-use packets::{End, TimeReading, When};
+use packets::{End, Time, When};
 
 // The logical address and the time number of the unit that reads them.
 const ADDRESS: u8 = 0x43;
@@ -12,16 +12,16 @@ pub(crate) fn read(name: &[u8], packet: &[u8], end: End) {
     answer(name, packets::read_time(packet, end, ADDRESS, NUMBER));
 }
 
-fn answer(name: &[u8], read: TimeReading) {
-    say!(name; ": {}", read.number());
+fn answer(name: &[u8], read: Option<Time>) {
+    say!(name; ": {}", packets::time_number(read));
     match read {
-        TimeReading::Taken(t) => say!(
+        Some(t) => say!(
             ", epoch {:02x}, {}, {:014x}\n",
             t.epoch,
             when(t.when),
             t.value
         ),
-        TimeReading::ThrownAway => say!("\n"),
+        None => say!("\n"),
     }
 }
 

@@ -1,44 +1,54 @@
 -- `packets::reading::read_command` meets its contract: the tests in the order of the definition.
-use mathlib.Core.Path.{◌≡◌, sym, ◌∙◌}
-use Prim.Native.Nat.{◌-◌}
-use native.Mathlib.Omega.{arith}
-use lib.ListN.{take}
+use Rattle.std.proofs.Common.{rules, ◌≡◌, ◌≤◌, ◌<◌, get_or, take, length, sym, ◌∙◌, arith, Err}
 use Rattle.octets.specs.Crc.{crc}
 use Rattle.packets.specs.Instruction.{header_size}
 use Rattle.packets.specs.Header.{instruction_at}
+use Rattle.packets.specs.declared.reading.Refusal.TheVariants.{Incomplete}
 use Rattle.packets.proofs.ReadingLaws.{read_short, read_reply, read_cut, read_damaged, read_whole}
 use Rattle.packets.proofs.reading.read_command.Goals as goal
 
-pub returns-then-packet-lt3 : goal.returns-then-packet-lt3
-returns-then-packet-lt3 c =
+pub returns-in_err-byte : goal.returns-in_err-byte
+returns-in_err-byte c =
     let p = c.args.packet.now in
-    c.refused.ensures ∙ read_short p (omega arith)
+    let short : length p < 3 = search rules in
+    let cut : c.from_residual.result ≡ Err Incomplete = search rules in
+    cut ∙ read_short p short
 
 pub returns-then-packet_type-eq0 : goal.returns-then-packet_type-eq0
 returns-then-packet_type-eq0 c =
     let p = c.args.packet.now in
-    c.refused-then-packet_type-eq0.ensures ∙ read_reply p (omega arith) (sym c.packet_type.ensures ∙ c.if-packet_type-eq0.true)
+    let three : 3 ≤ length p = search rules in
+    let byte : c.in_ok-byte.field-0.now ≡ get_or p 2 0 = search rules in
+    read_reply p three (rw (← byte) (sym c.packet_type.ensures ∙ c.if-packet_type-eq0.true))
 
-pub returns-then-packet-size : goal.returns-then-packet-size
-returns-then-packet-size c =
+pub returns-in_err-header : goal.returns-in_err-header
+returns-in_err-header c =
     let p = c.args.packet.now in
-    c.refused-then-packet-size.ensures
-    ∙ read_cut p (omega arith) (λ e. c.if-packet_type-eq0.false (c.packet_type.ensures ∙ e)) (omega arith)
+    let three : 3 ≤ length p = search rules in
+    let byte : c.in_ok-byte.field-0.now ≡ get_or p 2 0 = search rules in
+    let size : c.header_size.result ≡ header_size (instruction_at p) = rw (← byte) c.header_size.ensures in
+    let short : length p < c.header_size.result = search rules in
+    let cut : c.from_residual-in_err-header.result ≡ Err Incomplete = search rules in
+    cut ∙ read_cut p three (λ e. c.if-packet_type-eq0.false (c.packet_type.ensures ∙ rw byte e)) (omega (arith, size, short))
 
 pub returns-then-crc_of-ne0 : goal.returns-then-crc_of-ne0
 returns-then-crc_of-ne0 c =
     let p = c.args.packet.now in
-    let n : c.header_size-size.result - 0 ≡ header_size (instruction_at p) = omega arith in
-    let s : crc (take (c.header_size-size.result - 0) p) ≡ crc (take (header_size (instruction_at p)) p) = rw n in
-    c.refused-then-crc_of-ne0.ensures
-    ∙ read_damaged p (omega arith) (λ e. c.if-packet_type-eq0.false (c.packet_type.ensures ∙ e)) (omega arith)
-    (λ e. c.if-crc_of-ne0.true (c.crc_of.ensures ∙ s ∙ e))
+    let three : 3 ≤ length p = search rules in
+    let byte : c.in_ok-byte.field-0.now ≡ get_or p 2 0 = search rules in
+    let size : c.header_size.result ≡ header_size (instruction_at p) = rw (← byte) c.header_size.ensures in
+    let whole : c.header_size.result ≤ length p = search rules in
+    let header : c.in_ok-header.header.now ≡ take c.header_size.result p = search rules in
+    let sum : c.crc_of.result ≡ crc (take (header_size (instruction_at p)) p) = rw (← size, ← header) c.crc_of.ensures in
+    read_damaged p three (λ e. c.if-packet_type-eq0.false (c.packet_type.ensures ∙ rw byte e)) (omega (arith, size, whole)) (λ e. c.if-crc_of-ne0.true (sum ∙ e))
 
 pub returns : goal.returns
 returns c =
     let p = c.args.packet.now in
-    let n : c.header_size-size.result - 0 ≡ header_size (instruction_at p) = omega arith in
-    let s : crc (take (c.header_size-size.result - 0) p) ≡ crc (take (header_size (instruction_at p)) p) = rw n in
-    c.command.ensures
-    ∙ read_whole p (omega arith) (λ e. c.if-packet_type-eq0.false (c.packet_type.ensures ∙ e)) (omega arith)
-    (sym s ∙ sym c.crc_of.ensures ∙ c.if-crc_of-ne0.false)
+    let three : 3 ≤ length p = search rules in
+    let byte : c.in_ok-byte.field-0.now ≡ get_or p 2 0 = search rules in
+    let size : c.header_size.result ≡ header_size (instruction_at p) = rw (← byte) c.header_size.ensures in
+    let whole : c.header_size.result ≤ length p = search rules in
+    let header : c.in_ok-header.header.now ≡ take c.header_size.result p = search rules in
+    let sum : c.crc_of.result ≡ crc (take (header_size (instruction_at p)) p) = rw (← size, ← header) c.crc_of.ensures in
+    rw c.command_of.ensures (read_whole p three (λ e. c.if-packet_type-eq0.false (c.packet_type.ensures ∙ rw byte e)) (omega (arith, size, whole)) (sym sum ∙ c.if-crc_of-ne0.false))

@@ -2,13 +2,13 @@
 use Rattle.records.proofs.text.put_status.Goals as goal
 
 pub put-requires : goal.put-requires
-put-requires c = rw c.in-Nothing.is at c.requires
+put-requires c = rw c.in-None.is at c.requires
 
-pub put-requires-in-Byte : goal.put-requires-in-Byte
-put-requires-in-Byte c = rw c.in-Byte.is at c.requires
+pub put-requires-in-Some : goal.put-requires-in-Some
+put-requires-in-Some c = rw c.in-Some.is at c.requires
 
-pub returns-in-Nothing : goal.returns-in-Nothing
-returns-in-Nothing c = rw c.in-Nothing.is c.put.ensures
+pub returns-in-None : goal.returns-in-None
+returns-in-None c = rw c.in-None.is c.put.ensures
 
-pub returns-in-Byte : goal.returns-in-Byte
-returns-in-Byte c = rw c.in-Byte.is (rw (c.glyph-in-Byte.ensures, c.glyph.ensures) at c.put-in-Byte.ensures)
+pub returns-in-Some : goal.returns-in-Some
+returns-in-Some c = rw c.in-Some.is (rw (c.glyph-in-Some.ensures, c.glyph.ensures) at c.put-in-Some.ensures)

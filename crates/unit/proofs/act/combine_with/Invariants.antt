@@ -2,12 +2,9 @@
 use Rattle.octets.specs.Places.{part}
 use lib.Seq.{paste}
 use Rattle.unit.specs.Act.{combined}
-use Rattle.std.proofs.Common.{◌≡◌, ◌+◌, ◌-◌, ◌≤◌, length}
+use Rattle.std.proofs.Common.{◌≡◌, ◌+◌, length}
 use Rattle.unit.proofs.act.combine_with.Given as goal
 
 abbrev pub invariant-loop-i : goal.invariant-loop-i
 invariant-loop-i l =
-    (l.i ≤ l.count) × (l.read ≡ paste l.initial.read 0 (combined (part 0 l.count l.initial.read) (part l.from l.count l.packet) (part (l.from + l.count) l.count l.packet)) l.i) × (length l.read ≡ length l.initial.read)
-
-abbrev pub decreases-loop-i : goal.decreases-loop-i
-decreases-loop-i l = l.count - l.i
+    (l.read ≡ paste l.initial.read 0 (combined (part 0 l.count l.initial.read) (part l.from l.count l.packet) (part (l.from + l.count) l.count l.packet)) l.i) × (length l.read ≡ length l.initial.read)

@@ -1,18 +1,12 @@
 -- `unit::act::respond` meets its contract: the reply is written exactly where the fate is 20.
 use Rattle.unit.specs.Act.{replied_to}
-use Rattle.std.proofs.Common.{sym, ◌∙◌, eq-eqb, ne_eqb}
+use Rattle.unit.proofs.ActLaws.{not_replied}
 use Rattle.unit.proofs.act.respond.Goals as goal
 
-pub returns-then-number-ne20 : goal.returns-then-number-ne20
+pub returns-in-Replied : goal.returns-in-Replied
 unfolding replied_to
-returns-then-number-ne20 c = rw (← c.number.ensures, ne_eqb _ _ c.if-number-ne20.true)
+returns-in-Replied c = rw (c.in-Replied.is, ← c.status_byte.ensures) c.answer.ensures
 
-pub answer-requires : goal.answer-requires
-answer-requires c =
-    let w = c.requires in
-    (w.0, rw c.byte.ensures (w.1 (sym c.number.ensures ∙ c.if-number-ne20.false)))
-
-pub returns : goal.returns
+pub returns-in_default : goal.returns-in_default
 unfolding replied_to
-returns c =
-    rw (← c.number.ensures, eq-eqb _ _ c.if-number-ne20.false, ← c.byte.ensures) c.answer.ensures
+returns-in_default c = rw (not_replied c.args.plan.fate c.in_default.not-Replied)

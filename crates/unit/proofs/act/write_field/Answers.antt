@@ -1,22 +1,23 @@
 -- `unit::act::write_field` meets its contract: the rows of the two fields that are written, one after the other.
+use Rattle.std.proofs.Common.{sym, ◌∙◌, ne_eqb}
 use Rattle.unit.specs.Act.{field_written}
-use Rattle.std.proofs.Common.{eq-eqb, ne_eqb}
+use Rattle.unit.proofs.FieldLaws.{in_table, off_table}
 use Rattle.unit.proofs.act.write_field.Goals as goal
 
-pub returns-then-row-eq-TIME_CODE_COUNTER : goal.returns-then-row-eq-TIME_CODE_COUNTER
+pub returns-in-Some-eq11 : goal.returns-in-Some-eq11
 unfolding field_written
-returns-then-row-eq-TIME_CODE_COUNTER c = rw (← c.row_of-row.ensures.answers, eq-eqb _ _ c.if-row-eq-TIME_CODE_COUNTER.true, c.write_time_code-u.ensures)
+returns-in-Some-eq11 c =
+    rw ((in_table c.args.address (sym c.in-Some-eq11.ensures)).0, c.in-Some-eq11.field-0-test, ← c.write_time_code-clock.ensures)
 
-pub returns-then-row-eq-DIVIDER : goal.returns-then-row-eq-DIVIDER
+pub returns-in-Some-eq14 : goal.returns-in-Some-eq14
 unfolding field_written
-returns-then-row-eq-DIVIDER c =
-    rw (
-      ← c.row_of-row.ensures.answers,
-      ne_eqb _ _ c.if-row-eq-TIME_CODE_COUNTER.false,
-      eq-eqb _ _ c.if-row-eq-DIVIDER.true,
-      c.write_divider-u.ensures,
-    )
+returns-in-Some-eq14 c =
+    rw ((in_table c.args.address (sym c.in-Some-eq14.ensures)).0, c.in-Some-eq14.field-0-test, ← c.write_divider-fields.ensures)
 
-pub returns : goal.returns
+pub returns-in_default : goal.returns-in_default
 unfolding field_written
-returns c = rw (← c.row_of-row.ensures.answers, ne_eqb _ _ c.if-row-eq-TIME_CODE_COUNTER.false, ne_eqb _ _ c.if-row-eq-DIVIDER.false)
+returns-in_default c = rw ((in_table c.args.address (sym c.in_default.ensures)).0, ne_eqb _ _ c.in_default.field-0-test.0.1, ne_eqb _ _ c.in_default.field-0-test.1)
+
+pub returns-in_default-2 : goal.returns-in_default-2
+unfolding field_written
+returns-in_default-2 c = rw (off_table c.args.address (sym c.row_of.ensures ∙ c.in_default.is))

@@ -7,10 +7,10 @@ use Rattle.unit.proofs.calls.take_packet.Goals as goal
 pub carry_out-requires : goal.carry_out-requires
 carry_out-requires c =
     let a = c.args in
-    rw c.judge_read-judgement.ensures
-    (judged_allowed a.unit (record { packet = c.bare-bytes.result.now; end = a.end; link = a.link }) (record { memory = length a.memory.now; reply = length a.reply.now }))
+    rw c.judge_read-ruling.ensures
+    (judged_allowed a.unit (record { packet = c.bare-packet.result.now; end = a.end; link = a.link }) (record { memory = length a.memory.now; reply = length a.reply.now }))
 
 pub returns : goal.returns
 unfolding take_packet
 returns c =
-    rw (← c.bare-bytes.ensures, ← c.judge_read-judgement.ensures) c.carry_out.ensures
+    rw (← c.bare-packet.ensures, ← c.judge_read-ruling.ensures) c.carry_out.ensures

@@ -2,8 +2,8 @@
 use Rattle.std.proofs.Common.{sym, ◌∙◌}
 use Rattle.unit.proofs.judging.time_ruling.Goals as goal
 
-pub returns-in-ThrownAway : goal.returns-in-ThrownAway
-returns-in-ThrownAway c = rw (sym c.read_time-reading.ensures ∙ c.in-ThrownAway.is)
+pub returns-in-None : goal.returns-in-None
+returns-in-None c = rw (sym c.read_time.ensures ∙ c.in-None.is)
 
-pub returns-in-Taken : goal.returns-in-Taken
-returns-in-Taken c = rw (sym c.read_time-reading.ensures ∙ c.in-Taken.is)
+pub returns-in-Some : goal.returns-in-Some
+returns-in-Some c = rw (sym c.read_time.ensures ∙ c.in-Some.is)
