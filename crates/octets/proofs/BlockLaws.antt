@@ -1,7 +1,7 @@
 -- Laws of blocks of 127 bytes: modulo g(x), x^127 is 1, so that a block in front of another counts as if it lay on it, and two of them count what their sum does.
 use mathlib.Core.Path.{◌≡◌, refl, sym, ap, ap₂, ◌∙◌}
 use mathlib.Core.List.{List, [], ◌∷◌, ◌++◌, append_assoc, append-nil}
-use Prim.Native.Nat.{ℕ, zero, suc, ◌+◌, ◌-◌, ◌*◌, ◌%◌, ◌<◌, ◌≤◌}
+use Prim.Native.Nat.{ℕ, zero, suc, ◌+◌, ◌-◌, ◌*◌, ◌/◌, ◌%◌, ◌<◌, ◌≤◌}
 use native.Mathlib.Omega.{arith}
 use native.Mathlib.Numerals.{add-one}
 use lib.Bits.{bit_xor, xor_lt, xor_zero_r}
@@ -119,13 +119,15 @@ block_first c bytes h e = record {
       (ap (λ (k : ℕ). crc_from (crc (k ∷ [])) (replicate 126 0)) (sym (xor_zero_r c)) ∙ block_on c h);
 }
 
-pub block_next : (whole : ℕ) (bytes sum : List ℕ) (i : ℕ) → Digits 256 bytes → i < length bytes
-    → Summed whole bytes sum i → Summed whole bytes (added sum (part i 127 bytes)) (i + 127)
-block_next whole bytes sum i t h s =
+pub block_next : (whole : ℕ) (bytes sum : List ℕ) (k : ℕ) → Digits 256 bytes → k < length bytes / 127
+    → Summed whole bytes sum (k * 127) → Summed whole bytes (added sum (part (k * 127) 127 bytes)) ((k + 1) * 127)
+block_next whole bytes sum k t h s =
+    let i = k * 127 in
+    let on : (k + 1) * 127 ≡ i + 127 = omega arith in
     let fits : i + 127 ≤ length bytes = omega (arith, s.within, s.blocks) in
     let block = part i 127 bytes in
     let long : length block ≡ 127 = length_part i 127 bytes fits in
-    record {
+    rw on (record {
       within = fits;
       blocks = omega (arith, s.blocks);
       size = length_added sum block (s.size ∙ sym long) ∙ s.size;
@@ -136,7 +138,7 @@ block_next whole bytes sum i t h s =
           ∙ sym (crc_from_append 0 (sum ++ block) (drop (i + 127) bytes))
           ∙ ap (crc_from 0) (append_assoc sum block (drop (i + 127) bytes) ∙ ap (λ (l : List ℕ). sum ++ l) (part_rest i 127 bytes))
           ∙ s.goes;
-    }
+    })
 
 pub block_end : (whole : ℕ) (bytes sum : List ℕ) (i : ℕ) → length bytes ≤ i → Summed whole bytes sum i → crc_from 0 sum ≡ whole
 block_end whole bytes sum i h s =

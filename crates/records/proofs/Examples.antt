@@ -1,5 +1,5 @@
 -- Worked examples: document 01's own log, with what it prints; its records, its unit, and texts, by hand.
-use Rattle.std.proofs.Common.{◌≡◌, ℕ, true, List, [], ◌∷◌, ◌++◌, map, length, replicate, refl, None, Some, Err}
+use Rattle.std.proofs.Common.{◌≡◌, ℕ, true, List, [], ◌∷◌, ◌++◌, map, length, replicate, Ok, Err, refl, None, Some}
 use Rattle.octets.specs.Crc.{crc, mirrored, bits, remainder, message, modulo}
 use Rattle.packets.specs.Instruction.{kind_of}
 use Rattle.packets.specs.Path.{path_of, or_one_zero, without_leading_zeros, same_path}
@@ -28,7 +28,7 @@ use Rattle.records.specs.Text.{ascii, glyph, decimal, hexes, status_text, record
 use Rattle.records.specs.Log.{bench_unit, start_held, arrived_in, called, lent_by, lines, meaning}
 use Rattle.records.specs.declared.record.Item.{Item}
 use Rattle.records.specs.declared.record.Item.TheVariants.{Packet, TimeCode, Ticks}
-use Rattle.records.specs.declared.record.Record.TheVariants.{Whole, Wrong, Cut}
+use Rattle.records.specs.declared.record.NoRecord.TheVariants.{Wrong, Cut}
 use Rattle.records.specs.declared.bench.Stage.TheVariants.{Fresh}
 
 -- 5A 57 01 03 00 00 02 FE 07 prints 'item fate status reply', '1 12 - 0' and 'end 1'
@@ -129,12 +129,12 @@ pub right_ones :
     ∷ (head 3 0 0 0 4 ++ (0x01 ∷ 0x02 ∷ 0x03 ∷ 0x04 ∷ []))
     ∷ []
     )
-    ≡ Whole (Packet Eop 3 2)
-    ∷ Whole (Packet Eep 4 2)
-    ∷ Whole (Packet Eop 0 0)
-    ∷ Whole (Packet Eep 255 0)
-    ∷ Whole (TimeCode 0x3F)
-    ∷ Whole (Ticks 0x01020304)
+    ≡ Ok (Packet Eop 3 2)
+    ∷ Ok (Packet Eep 4 2)
+    ∷ Ok (Packet Eop 0 0)
+    ∷ Ok (Packet Eep 255 0)
+    ∷ Ok (TimeCode 0x3F)
+    ∷ Ok (Ticks 0x01020304)
     ∷ []
 unfolding read_record
 right_ones = refl
@@ -168,7 +168,7 @@ pub wrong_ones :
     ∷ (head 3 0 0 0 5 ++ (0x01 ∷ 0x02 ∷ 0x03 ∷ 0x04 ∷ 0x05 ∷ []))
     ∷ []
     )
-    ≡ replicate 19 Wrong
+    ≡ replicate 19 (Err Wrong)
 unfolding read_record
 wrong_ones = refl
 
@@ -182,12 +182,12 @@ pub cut_ones :
     ∷ (head 3 0 0 0 4 ++ (0x01 ∷ 0x02 ∷ 0x03 ∷ []))
     ∷ []
     )
-    ≡ replicate 5 Cut
+    ≡ replicate 5 (Err Cut)
 unfolding read_record
 cut_ones = refl
 
 -- a body of 4,096 bytes, and a byte less than it tells
-pub longest_one : map (λ (n : ℕ). read_record (head 1 1 0 0x10 0x00 ++ replicate n 0)) (4096 ∷ 4095 ∷ []) ≡ Whole (Packet Eop 1 4096) ∷ Cut ∷ []
+pub longest_one : map (λ (n : ℕ). read_record (head 1 1 0 0x10 0x00 ++ replicate n 0)) (4096 ∷ 4095 ∷ []) ≡ Ok (Packet Eop 1 4096) ∷ Err Cut ∷ []
 unfolding read_record
 longest_one = refl
 

@@ -1,17 +1,16 @@
 -- The loop of `run`: what its turns have done is one run that goes on from where they are. Each turn is a step; where none follows, that run is done.
-use Rattle.std.proofs.Common.{◌≡◌, ℕ, ◌+◌, ◌-◌, ◌<◌, ◌≤◌, Bool, true, false, cond, eqb, leb, List, [], ◌∷◌, ◌++◌, length, take, drop, sym, refl, ap, ◌∙◌, zero-add, arith, length-drop, take-append-drop, length-take, length-take-le, take_all, drop-drop, le-leb, leb-false, leb-true}
-use mathlib.Core.Bool.{and-false}
+use Rattle.std.proofs.Common.{◌≡◌, ℕ, ◌+◌, ◌-◌, ◌<◌, ◌≤◌, Bool, true, false, cond, eqb, leb, Some, None, List, [], ◌∷◌, ◌++◌, length, take, drop, sym, refl, ap, ◌∙◌, zero-add, arith, length-drop, take-append-drop, length-take, length-take-le, take_all, drop-drop, le-leb, leb-false, leb-true}
 use borrow.Author.Tests.{lt-leb}
 use Rattle.octets.specs.Places.{placed}
 use Rattle.octets.proofs.PlaceLaws.{take_placed, drop_placed}
 use Rattle.records.specs.Between.{Says}
 use Rattle.records.specs.Text.{end_line, bad_line}
 use Rattle.records.specs.Log.{number_after, Held, lent_by, outcome_of, last_line}
-use Rattle.records.specs.Run.{next_of, is_silence, Progress, text_of, stepped, longest_line, next_in, goes_on, steps_left, ran, answer_of}
+use Rattle.records.specs.Run.{next_of, Progress, text_of, stepped, longest_line, next_in, steps_left, ran, answer_of}
 use Rattle.records.specs.declared.bench.Bench.{Bench}
 use Rattle.records.specs.declared.log.Ran.{Ran}
 use Rattle.records.specs.declared.log.Next.{Next}
-use Rattle.records.specs.declared.log.Next.TheVariants.{Heading, Line, Last, Silence}
+use Rattle.records.specs.declared.log.Next.TheVariants.{Heading, Line, Last}
 use Rattle.records.proofs.TextLaws.{line_length, word_length, put_length}
 use Rattle.records.proofs.RunLaws.{call_fits, falls, ran_next, ran_stop}
 
@@ -31,7 +30,6 @@ text_length (Line item) s h =
     let f = call_fits item s h.bench.unit (lent_by h) in
     omega (arith, line_length (number_after h.bench) o.answer.fate (take o.answer.length o.reply), length-take o.answer.length o.reply, f.1)
 text_length Last s h = omega (arith, last_length s h.bench)
-text_length Silence s h = omega arith
 
 -- ---- the loop
 
@@ -62,14 +60,12 @@ module _ (log : List ℕ) (last : Bool) (out₀ : List ℕ) (first : Progress) w
     text_is = length-take-le written out got.inside
 
     -- a turn
-    module _ (room : leb (longest_line (length h.reply)) (length out - written) ≡ true) (next : Next) (is : next ≡ next_of h.bench.stage (drop used log) last)
-        (some : is_silence next ≡ false) where
+    module _ (room : leb (longest_line (length h.reply)) (length out - written) ≡ true) (next : Next) (is : next_of h.bench.stage (drop used log) last ≡ Some next) where
       roomy : written + longest_line (length h.reply) ≤ length out
       roomy = let r = leb-true (longest_line (length h.reply)) (length out - written) room in let i = got.inside in omega arith
 
-      goes : goes_on log last (length out₀) here ≡ true
-      goes =
-          rw (le-leb (length (take written out) + longest_line (length h.reply)) (length out₀) (omega (arith, text_is, roomy, got.long)), ← is, some)
+      goes : next_in log last (length out₀) here ≡ Some next
+      goes = rw (le-leb (length (take written out) + longest_line (length h.reply)) (length out₀) (omega (arith, text_is, roomy, got.long))) is
 
       pub got_next : (b : Bench) (m r out' : List ℕ) (u w : ℕ) → Says next (drop used log) h written out b m r out' u w
           → Got (record { bench = b; memory = m; reply = r }) (used + u) out' w
@@ -80,17 +76,16 @@ module _ (log : List ℕ) (last : Bool) (out₀ : List ℕ) (first : Progress) w
           let fits : written + length text ≤ length out = omega (arith, text_length next s h, roomy) in
           let put = says.prints in
           let shown : take w out' ≡ take written out ++ text = rw (put.next, put.bytes) (take_placed written text out fits) in
-          let step : reached (record { bench = b; memory = m; reply = r }) (used + u) out' w ≡ stepped (next_in log last here) s here =
-          (λ i. record {
+          let step : reached (record { bench = b; memory = m; reply = r }) (used + u) out' w ≡ stepped next s here =
+          λ i. record {
             held = says.leaves i;
             used = used + says.uses i;
             text = shown i;
-          })
-          ∙ ap (λ (n : Next). stepped n s here) is in
-          let f = falls log last (length out₀) here got.there goes in
+          } in
+          let f = falls log last (length out₀) here next got.there goes in
           let z = put.next in (
             record {
-              same = ap (ran log last (length out₀)) step ∙ sym (ran_next log last (length out₀) here got.there goes) ∙ got.same;
+              same = ap (ran log last (length out₀)) step ∙ sym (ran_next log last (length out₀) here next got.there goes) ∙ got.same;
               there = rw (ap (λ (p : Progress). p.used) step) f.0;
               inside = omega (arith, z, put_length put fits, fits);
               long = put_length put fits ∙ got.long;
@@ -102,15 +97,19 @@ module _ (log : List ℕ) (last : Bool) (out₀ : List ℕ) (first : Progress) w
           )
 
     -- no turn more: no room, or nothing to print
-    pub stops_full : leb (longest_line (length h.reply)) (length out - written) ≡ false → goes_on log last (length out₀) here ≡ false
+    pub stops_full : leb (longest_line (length h.reply)) (length out - written) ≡ false → next_in log last (length out₀) here ≡ None
     stops_full e =
         let full = leb-false (longest_line (length h.reply)) (length out - written) e in
         rw (lt-leb (length (take written out) + longest_line (length h.reply)) (length out₀) (omega (arith, text_is, full, got.inside, got.long)))
 
-    pub stops_silent : (next : Next) → next ≡ next_of h.bench.stage (drop used log) last → is_silence next ≡ true → goes_on log last (length out₀) here ≡ false
-    stops_silent next is e = rw (← is, e) (and-false (leb (length (take written out) + longest_line (length h.reply)) (length out₀)))
+    pub stops_silent : next_of h.bench.stage (drop used log) last ≡ None → next_in log last (length out₀) here ≡ None
+    stops_silent e = go (leb (length (take written out) + longest_line (length h.reply)) (length out₀))
+      where
+        go : (t : Bool) → cond t (next_of h.bench.stage (drop used log) last) None ≡ None
+        go true = e
+        go false = refl
 
-    module _ (stops : goes_on log last (length out₀) here ≡ false) where
+    module _ (stops : next_in log last (length out₀) here ≡ None) where
       done : ran log last (length out₀) first ≡ here
       done = sym got.same ∙ ran_stop log last (length out₀) here stops
 

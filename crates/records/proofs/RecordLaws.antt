@@ -1,5 +1,5 @@
 -- Laws of records: how long a right one is, which numbers stand for its kind and its end, that a whole one is all there, and that what comes behind a record changes nothing of it.
-use Rattle.std.proofs.Common.{◌≡◌, ℕ, ◌+◌, ◌<◌, ◌≤◌, Bool, true, false, cond, not, ◌&&◌, ◌||◌, eqb, ltb, leb, List, ◌++◌, length, get_or, take, drop, sym, refl, ap, ◌∙◌, arith, length-append, length-drop, ltb-false, ltb-true, le-ltb, ne_eqb, eqb-true, leb-true}
+use Rattle.std.proofs.Common.{◌≡◌, ℕ, ◌+◌, ◌<◌, ◌≤◌, Bool, true, false, cond, not, ◌&&◌, ◌||◌, eqb, ltb, leb, List, Result, Ok, Err, ◌++◌, length, get_or, take, drop, sym, refl, ap, ◌∙◌, arith, length-append, length-drop, ltb-false, ltb-true, le-ltb, ne_eqb, eqb-true, leb-true}
 use mathlib.Core.Bool.{or-false}
 use borrow.Author.Tests.{eqb-false}
 use lib.ListN.{get_or-append}
@@ -12,8 +12,8 @@ use Rattle.packets.specs.declared.reading.End.{End}
 use Rattle.packets.specs.declared.reading.End.TheVariants.{Eop, Eep}
 use Rattle.records.specs.declared.record.Item.{Item}
 use Rattle.records.specs.declared.record.Item.TheVariants.{Packet, TimeCode, Ticks}
-use Rattle.records.specs.declared.record.Record.{Record}
-use Rattle.records.specs.declared.record.Record.TheVariants.{Whole, Wrong, Cut}
+use Rattle.records.specs.declared.record.NoRecord.{NoRecord}
+use Rattle.records.specs.declared.record.NoRecord.TheVariants.{Wrong, Cut}
 
 -- a Time-Code has a body of one byte, ticks have one of four
 module _ (s : List ℕ) (head : is_head s ≡ true) where
@@ -116,55 +116,52 @@ module _ (s : List ℕ) (head : is_head s ≡ true) where
 -- ---- what bytes begin with is one of four
 
 module _ (s : List ℕ) where
-  pub record_is : (P : Record → Type 0) → (length s < 7 → P Cut) → (7 ≤ length s → is_head s ≡ false → P Wrong)
-      → (7 ≤ length s → is_head s ≡ true → length s < 7 + body_size s → P Cut)
-      → (is_head s ≡ true → 7 + body_size s ≤ length s → P (Whole (item_of s))) → P (read_record s)
+  pub record_is : (P : Result Item NoRecord → Type 0) → (length s < 7 → P (Err Cut)) → (7 ≤ length s → is_head s ≡ false → P (Err Wrong))
+      → (7 ≤ length s → is_head s ≡ true → length s < 7 + body_size s → P (Err Cut))
+      → (is_head s ≡ true → 7 + body_size s ≤ length s → P (Ok (item_of s))) → P (read_record s)
   unfolding read_record
   record_is P few wrong cut whole = go (ltb (length s) 7) (is_head s) (ltb (length s) (7 + body_size s)) refl refl refl
     where
       go : (a b c : Bool) → ltb (length s) 7 ≡ a → is_head s ≡ b → ltb (length s) (7 + body_size s) ≡ c
-          → P (cond a Cut (cond (not b) Wrong (cond c Cut (Whole (item_of s)))))
+          → P (cond a (Err Cut) (cond (not b) (Err Wrong) (cond c (Err Cut) (Ok (item_of s)))))
       go true b c e f g = few (ltb-true (length s) 7 e)
       go false false c e f g = wrong (ltb-false (length s) 7 e) f
       go false true true e f g = cut (ltb-false (length s) 7 e) f (ltb-true (length s) (7 + body_size s) g)
       go false true false e f g = whole f (ltb-false (length s) (7 + body_size s) g)
 
   -- a whole record is all there
-  abbrev WholeFits : Record → Type 0
-  WholeFits r = (item : Item) → r ≡ Whole item → (7 ≤ size_of item) × (size_of item ≤ length s)
+  abbrev WholeFits : Result Item NoRecord → Type 0
+  WholeFits r = (item : Item) → r ≡ Ok item → (7 ≤ size_of item) × (size_of item ≤ length s)
 
   pub whole_fits : WholeFits (read_record s)
   whole_fits =
-      record_is WholeFits (λ l item e. absurd (cut_whole item e)) (λ l f item e. absurd (wrong_whole item e)) (λ l f g item e. absurd (cut_whole item e))
+      record_is WholeFits (λ l item e. absurd (none_whole Cut item e)) (λ l f item e. absurd (none_whole Wrong item e)) (λ l f g item e. absurd (none_whole Cut item e))
       (λ f l item e. let n = item_size s f in let z = ap size_in e in (omega (arith, n, z, l), omega (arith, n, z, l)))
     where
-      size_in : Record → ℕ
-      size_in r = elim r [ Whole i ↦ size_of i | Wrong ↦ 0 | Cut ↦ 0 ]
+      size_in : Result Item NoRecord → ℕ
+      size_in r = elim r [ Ok i ↦ size_of i | Err why ↦ 0 ]
 
-      cut_whole : (item : Item) → Cut ≡ Whole item → ⊥
-      cut_whole item e = let z : ◌≡◌ {A = ℕ} 0 1 = cc in omega arith
-
-      wrong_whole : (item : Item) → Wrong ≡ Whole item → ⊥
-      wrong_whole item e = let z : ◌≡◌ {A = ℕ} 0 1 = cc in omega arith
+      none_whole : (why : NoRecord) (item : Item) → Err why ≡ Ok item → ⊥
+      none_whole why item e = let z : ◌≡◌ {A = ℕ} 0 1 = cc in omega arith
 
   -- no record is wrong before seven bytes are there
-  pub wrong_long : read_record s ≡ Wrong → 7 ≤ length s
+  pub wrong_long : read_record s ≡ Err Wrong → 7 ≤ length s
   wrong_long =
-      record_is (λ r. r ≡ Wrong → 7 ≤ length s) (λ l e. absurd (cut_wrong e)) (λ l f e. l) (λ l f g e. l) (λ f l e. omega arith)
+      record_is (λ r. r ≡ Err Wrong → 7 ≤ length s) (λ l e. absurd (cut_wrong e)) (λ l f e. l) (λ l f g e. l) (λ f l e. omega arith)
     where
-      cut_wrong : Cut ≡ Wrong → ⊥
+      cut_wrong : ◌≡◌ {A = Result Item NoRecord} (Err Cut) (Err Wrong) → ⊥
       cut_wrong e = let z : ◌≡◌ {A = ℕ} 0 1 = cc in omega arith
 
   -- and none is cut that has 4,103
-  pub cut_short : read_record s ≡ Cut → length s < 7 + 4096
+  pub cut_short : read_record s ≡ Err Cut → length s < 7 + 4096
   cut_short =
-      record_is (λ r. r ≡ Cut → length s < 7 + 4096) (λ l e. omega arith) (λ l f e. absurd (wrong_cut e)) (λ l f g e. omega (arith, body_most s f, g))
+      record_is (λ r. r ≡ Err Cut → length s < 7 + 4096) (λ l e. omega arith) (λ l f e. absurd (wrong_cut e)) (λ l f g e. omega (arith, body_most s f, g))
       (λ f l e. absurd (whole_cut (item_of s) e))
     where
-      wrong_cut : Wrong ≡ Cut → ⊥
+      wrong_cut : ◌≡◌ {A = Result Item NoRecord} (Err Wrong) (Err Cut) → ⊥
       wrong_cut e = let z : ◌≡◌ {A = ℕ} 0 1 = cc in omega arith
 
-      whole_cut : (item : Item) → Whole item ≡ Cut → ⊥
+      whole_cut : (item : Item) → ◌≡◌ {A = Result Item NoRecord} (Ok item) (Err Cut) → ⊥
       whole_cut item e = let z : ◌≡◌ {A = ℕ} 0 1 = cc in omega arith
 
 -- ---- what comes behind a record that can be told changes nothing of it
@@ -198,10 +195,10 @@ module _ (s t : List ℕ) where
             let n = ticks_body s head (eqb-false (get_or s 2 0) 1 e) (eqb-false (get_or s 2 0) 2 f) in
             ap (λ (l : List ℕ). Ticks (number l)) (more_part 7 4 (omega arith))
 
-  pub record_more : (read_record s ≡ Cut → ⊥) → read_record (s ++ t) ≡ read_record s
+  pub record_more : (read_record s ≡ Err Cut → ⊥) → read_record (s ++ t) ≡ read_record s
   unfolding read_record
   record_more told =
-      record_is s (λ r. (r ≡ Cut → ⊥) → read_record (s ++ t) ≡ r) (λ l c. absurd (c refl))
+      record_is s (λ r. (r ≡ Err Cut → ⊥) → read_record (s ++ t) ≡ r) (λ l c. absurd (c refl))
       (λ l f c. let n = length-append s t in rw (le-ltb (length (s ++ t)) 7 (omega arith), more_head l ∙ f)) (λ l f g c. absurd (c refl))
       (λ f l c.
       let n = length-append s t in

@@ -1,8 +1,8 @@
 -- Laws of a run: how much room there is, and what a call does by one step after the other.
-use Rattle.std.proofs.Common.{◌≡◌, ℕ, zero, suc, ◌+◌, ◌-◌, ◌/◌, ◌<◌, ◌≤◌, Bool, true, false, cond, not, leb, List, length, take, drop, sym, refl, ap, ◌∙◌, subst, arith, length-drop}
-use mathlib.Core.Bool.{false≢true}
-use borrow.Author.Tests.{not-true}
-use Rattle.octets.proofs.PlaceLaws.{same_test, second_true}
+use Rattle.std.proofs.Common.{◌≡◌, ℕ, zero, suc, ◌+◌, ◌-◌, ◌/◌, ◌<◌, ◌≤◌, Bool, true, false, cond, leb, Option, Some, None, Result, Ok, Err, List, length, take, drop, sym, refl, ap, ◌∙◌, subst, arith, length-drop}
+use Rattle.std.proofs.lemmas.Option.{none-some}
+use Rattle.std.specs.Option.{option_map_or, unwrap_or}
+use Rattle.octets.proofs.PlaceLaws.{same_test}
 use Rattle.unit.specs.Given.{Lent}
 use Rattle.unit.specs.Calls.{Outcome}
 use Rattle.unit.specs.declared.unit.Unit.{Unit as TheUnit}
@@ -14,14 +14,14 @@ use Rattle.records.specs.Text.{record_line}
 use Rattle.records.specs.Log.{number_after, Held, arrived_in, called, lent_by, outcome_of, bench_after, held_after}
 use Rattle.records.specs.declared.record.Item.{Item}
 use Rattle.records.specs.declared.record.Item.TheVariants.{Packet, TimeCode, Ticks}
-use Rattle.records.specs.Run.{next_for, next_of, is_silence, Progress, at_stage, held_at, left_by, used_by, stepped, longest_line, next_in, goes_on, ran_in, steps, steps_left, ran}
+use Rattle.records.specs.Run.{next_for, next_of, Progress, at_stage, held_at, left_by, used_by, stepped, longest_line, next_in, ran_in, steps, steps_left, ran}
 use Rattle.records.specs.declared.bench.Bench.{Bench}
 use Rattle.records.specs.declared.bench.Stage.{Stage}
 use Rattle.records.specs.declared.bench.Stage.TheVariants.{Fresh, Running, Over}
 use Rattle.records.specs.declared.log.Next.{Next}
-use Rattle.records.specs.declared.log.Next.TheVariants.{Heading, Line, Last, Silence}
-use Rattle.records.specs.declared.record.Record.{Record}
-use Rattle.records.specs.declared.record.Record.TheVariants.{Whole, Wrong, Cut}
+use Rattle.records.specs.declared.log.Next.TheVariants.{Heading, Line, Last}
+use Rattle.records.specs.declared.record.NoRecord.{NoRecord}
+use Rattle.records.specs.declared.record.NoRecord.TheVariants.{Wrong, Cut}
 use Rattle.records.proofs.RecordLaws.{whole_fits}
 use Rattle.records.proofs.Turns.{enough_turns}
 
@@ -65,90 +65,103 @@ stage_is stage h b e = λ i. record { bench = e i; memory = h.memory; reply = h.
 
 -- ---- a step
 
+-- an option of one step has just that
+pub some_is : (a b : Next) → Some a ≡ Some b → a ≡ b
+some_is a b e = ap (λ (o : Option Next). unwrap_or o a) e
+
 -- it asks for no more than there is
-pub next_fits : (stage : Stage) (s : List ℕ) (last : Bool) → Fits (next_of stage s last) s
-next_fits Fresh s last = tt
-next_fits Running s last = go (read_record s) last (whole_fits s)
-  where
-    go : (r : Record) (l : Bool) → ((item : Item) → r ≡ Whole item → (7 ≤ size_of item) × (size_of item ≤ length s)) → Fits (next_for r l) s
-    go (Whole item) l f = (f item refl).1
-    go Wrong l f = tt
-    go Cut true f = tt
-    go Cut false f = tt
-next_fits Over s last = tt
+next_for_fits : (r : Result Item NoRecord) (last : Bool) (s : List ℕ) → ((item : Item) → r ≡ Ok item → (7 ≤ size_of item) × (size_of item ≤ length s))
+    → (next : Next) → next_for r last ≡ Some next → Fits next s
+next_for_fits (Ok item) last s f next e = rw (sym (some_is (Line item) next e)) (f item refl).1
+next_for_fits (Err Wrong) last s f next e = rw (sym (some_is Last next e)) tt
+next_for_fits (Err Cut) true s f next e = rw (sym (some_is Last next e)) tt
+next_for_fits (Err Cut) false s f next e = absurd (none-some next e)
+
+pub next_fits : (stage : Stage) (s : List ℕ) (last : Bool) (next : Next) → next_of stage s last ≡ Some next → Fits next s
+next_fits Fresh s last next e = rw (sym (some_is Heading next e)) tt
+next_fits Running s last next e = next_for_fits (read_record s) last s (whole_fits s) next e
+next_fits Over s last next e = absurd (none-some next e)
 
 abbrev stage_after : Next → Stage → Stage
 stage_after Heading stage = Running
 stage_after (Line item) stage = stage
 stage_after Last stage = Over
-stage_after Silence stage = stage
 
 stage_after_law : (next : Next) (s : List ℕ) (h : Held) → (left_by next s h).bench.stage ≡ stage_after next h.bench.stage
 stage_after_law Heading s h = refl
 stage_after_law (Line item) s h = refl
 stage_after_law Last s h = refl
-stage_after_law Silence s h = refl
 
 -- it uses bytes that are there, and there are fewer steps left
-step_falls : (stage : Stage) (log : List ℕ) (used : ℕ) (last : Bool) → used ≤ length log → is_silence (next_of stage (drop used log) last) ≡ false
-    → (used + used_by (next_of stage (drop used log) last) ≤ length log)
-    × (length log - (used + used_by (next_of stage (drop used log) last)) + steps (stage_after (next_of stage (drop used log) last) stage)
-    < length log - used + steps stage)
-step_falls Fresh log used last u e = (omega arith, omega arith)
-step_falls Running log used last u e = go (read_record (drop used log)) last (whole_fits (drop used log)) e
-  where
-    go : (r : Record) (l : Bool) → ((item : Item) → r ≡ Whole item → (7 ≤ size_of item) × (size_of item ≤ length (drop used log))) → is_silence (next_for r l) ≡ false
-        → (used + used_by (next_for r l) ≤ length log)
-        × (length log - (used + used_by (next_for r l)) + steps (stage_after (next_for r l) Running) < length log - used + 1)
-    go (Whole item) l f e =
-        let g = f item refl in
-        let n = length-drop used log in
-        (omega (arith, g, n, u), omega (arith, g, n, u))
-    go Wrong l f e = (omega (arith, u), omega (arith, u))
-    go Cut true f e = (omega (arith, u), omega (arith, u))
-    go Cut false f e = absurd (false≢true (sym e))
-step_falls Over log used last u e = absurd (false≢true (sym e))
+abbrev Falls : Stage → ℕ → ℕ → Next → Type 0
+Falls stage long used next =
+    (used + used_by next ≤ long) × (long - (used + used_by next) + steps (stage_after next stage) < long - used + steps stage)
+
+for_falls : (r : Result Item NoRecord) (log : List ℕ) (used : ℕ) (last : Bool) → used ≤ length log
+    → ((item : Item) → r ≡ Ok item → (7 ≤ size_of item) × (size_of item ≤ length (drop used log)))
+    → (next : Next) → next_for r last ≡ Some next → Falls Running (length log) used next
+for_falls (Ok item) log used last u f next e =
+    let g = f item refl in
+    let n = length-drop used log in
+    subst (Falls Running (length log) used) (some_is (Line item) next e) (omega (arith, g, n, u), omega (arith, g, n, u))
+for_falls (Err Wrong) log used last u f next e = subst (Falls Running (length log) used) (some_is Last next e) (omega (arith, u), omega (arith, u))
+for_falls (Err Cut) log used true u f next e = subst (Falls Running (length log) used) (some_is Last next e) (omega (arith, u), omega (arith, u))
+for_falls (Err Cut) log used false u f next e = absurd (none-some next e)
+
+step_falls : (stage : Stage) (log : List ℕ) (used : ℕ) (last : Bool) → used ≤ length log
+    → (next : Next) → next_of stage (drop used log) last ≡ Some next → Falls stage (length log) used next
+step_falls Fresh log used last u next e = subst (Falls Fresh (length log) used) (some_is Heading next e) (omega (arith, u), omega (arith, u))
+step_falls Running log used last u next e = for_falls (read_record (drop used log)) log used last u (whole_fits (drop used log)) next e
+step_falls Over log used last u next e = absurd (none-some next e)
 
 -- ---- a call, step by step
 
 module _ (log : List ℕ) (last : Bool) (room : ℕ) where
-  abbrev pub further : Progress → Progress
-  further p = stepped (next_in log last p) (drop p.used log) p
+  -- what is next
+  pub next_there : (p : Progress) (next : Next) → next_in log last room p ≡ Some next → next_of p.held.bench.stage (drop p.used log) last ≡ Some next
+  next_there p next e = go (leb (length p.text + longest_line (length p.held.reply)) room) e
+    where
+      go : (t : Bool) → cond t (next_of p.held.bench.stage (drop p.used log) last) None ≡ Some next → next_of p.held.bench.stage (drop p.used log) last ≡ Some next
+      go true e = e
+      go false e = absurd (none-some next e)
 
-  pub falls : (p : Progress) → p.used ≤ length log → goes_on log last room p ≡ true → ((further p).used ≤ length log) × (steps_left log (further p) < steps_left log p)
-  falls p u e =
-      let stage = p.held.bench.stage in
-      let next = next_in log last p in
-      let f = step_falls stage log p.used last u (not-true (is_silence next) (second_true (leb (length p.text + longest_line (length p.held.reply)) room) (not (is_silence next)) e)) in
-      let g : steps_left log (further p) < steps_left log p = rw (stage_after_law next (drop p.used log) p.held) f.1 in
+  abbrev pub further : Next → Progress → Progress
+  further next p = stepped next (drop p.used log) p
+
+  pub falls : (p : Progress) (next : Next) → p.used ≤ length log → next_in log last room p ≡ Some next
+      → ((further next p).used ≤ length log) × (steps_left log (further next p) < steps_left log p)
+  falls p next u e =
+      let f = step_falls p.held.bench.stage log p.used last u next (next_there p next e) in
+      let g : steps_left log (further next p) < steps_left log p = rw (stage_after_law next (drop p.used log) p.held) f.1 in
       (f.0, g)
 
   -- more turns than there are steps left make no difference
   spare : (k : ℕ) (p : Progress) → p.used ≤ length log → steps_left log p ≤ k → ran_in (suc k) log last room p ≡ ran_in k log last room p
-  spare zero p u l = go (goes_on log last room p) refl
+  spare zero p u l = go (next_in log last room p) refl
     where
-      go : (t : Bool) → goes_on log last room p ≡ t → cond t (further p) p ≡ p
-      go true e = let f = falls p u e in absurd (omega (arith, f.1, l))
-      go false e = refl
-  spare (suc k) p u l = go (goes_on log last room p) refl (λ e. spare k (further p) (falls p u e).0 (let f = falls p u e in omega (arith, f.1, l)))
+      go : (o : Option Next) → next_in log last room p ≡ o → option_map_or (λ next. further next p) o p ≡ p
+      go (Some next) e = let f = falls p next u e in absurd (omega (arith, f.1, l))
+      go None e = refl
+  spare (suc k) p u l = go (next_in log last room p) refl (λ next e. spare k (further next p) (falls p next u e).0 (let f = falls p next u e in omega (arith, f.1, l)))
     where
-      go : (t : Bool) → goes_on log last room p ≡ t → (goes_on log last room p ≡ true → ran_in (suc k) log last room (further p) ≡ ran_in k log last room (further p))
-          → cond t (ran_in (suc k) log last room (further p)) p ≡ cond t (ran_in k log last room (further p)) p
-      go true e more = more e
-      go false e more = refl
+      go : (o : Option Next) → next_in log last room p ≡ o
+          → ((next : Next) → next_in log last room p ≡ Some next → ran_in (suc k) log last room (further next p) ≡ ran_in k log last room (further next p))
+          → option_map_or (λ next. ran_in (suc k) log last room (further next p)) o p ≡ option_map_or (λ next. ran_in k log last room (further next p)) o p
+      go (Some next) e more = more next e
+      go None e more = refl
 
-  pub ran_next : (p : Progress) → p.used ≤ length log → goes_on log last room p ≡ true → ran log last room p ≡ ran log last room (further p)
+  pub ran_next : (p : Progress) (next : Next) → p.used ≤ length log → next_in log last room p ≡ Some next → ran log last room p ≡ ran log last room (further next p)
   unfolding ran
-  ran_next p u e = go (steps_left log p) refl
+  ran_next p next u e = go (steps_left log p) refl
     where
-      go : (n : ℕ) → steps_left log p ≡ n → ran_in n log last room p ≡ ran_in (steps_left log (further p)) log last room (further p)
-      go zero f = let g = falls p u e in absurd (omega (arith, g.1, f))
+      go : (n : ℕ) → steps_left log p ≡ n → ran_in n log last room p ≡ ran_in (steps_left log (further next p)) log last room (further next p)
+      go zero f = let g = falls p next u e in absurd (omega (arith, g.1, f))
       go (suc n) f =
-          let g = falls p u e in
+          let g = falls p next u e in
           rw e
-          (enough_turns (λ k. ran_in k log last room (further p)) (steps_left log (further p)) (λ k l. spare k (further p) g.0 l) n (omega (arith, g.1, f)))
+          (enough_turns (λ k. ran_in k log last room (further next p)) (steps_left log (further next p)) (λ k l. spare k (further next p) g.0 l) n (omega (arith, g.1, f)))
 
-  pub ran_stop : (p : Progress) → goes_on log last room p ≡ false → ran log last room p ≡ p
+  pub ran_stop : (p : Progress) → next_in log last room p ≡ None → ran log last room p ≡ p
   unfolding ran
   ran_stop p e = go (steps_left log p)
     where
@@ -157,35 +170,35 @@ module _ (log : List ℕ) (last : Bool) (room : ℕ) where
       go (suc n) = rw e
 
   -- what holds at the start and after every step holds at the end; and there no step follows
-  module _ (Q : Progress → Type 0) (step : (q : Progress) → q.used ≤ length log → goes_on log last room q ≡ true → Q q → Q (further q)) where
+  module _ (Q : Progress → Type 0) (step : (q : Progress) (next : Next) → q.used ≤ length log → next_in log last room q ≡ Some next → Q q → Q (further next q)) where
     runs_in : (k : ℕ) (p : Progress) → p.used ≤ length log → Q p → Q (ran_in k log last room p)
     runs_in zero p u q = q
     runs_in (suc k) p u q =
-        go (goes_on log last room p) refl (λ e. runs_in k (further p) (falls p u e).0 (step p u e q))
+        go (next_in log last room p) refl (λ next e. runs_in k (further next p) (falls p next u e).0 (step p next u e q))
       where
-        go : (t : Bool) → goes_on log last room p ≡ t → (goes_on log last room p ≡ true → Q (ran_in k log last room (further p)))
-            → Q (cond t (ran_in k log last room (further p)) p)
-        go true e more = more e
-        go false e more = q
+        go : (o : Option Next) → next_in log last room p ≡ o → ((next : Next) → next_in log last room p ≡ Some next → Q (ran_in k log last room (further next p)))
+            → Q (option_map_or (λ next. ran_in k log last room (further next p)) o p)
+        go (Some next) e more = more next e
+        go None e more = q
 
     pub ran_is : (p : Progress) → p.used ≤ length log → Q p → Q (ran log last room p)
     unfolding ran
     ran_is p u q = runs_in (steps_left log p) p u q
 
-  ends_in : (k : ℕ) (p : Progress) → p.used ≤ length log → steps_left log p ≤ k → goes_on log last room (ran_in k log last room p) ≡ false
-  ends_in zero p u l = go (goes_on log last room p) refl
+  ends_in : (k : ℕ) (p : Progress) → p.used ≤ length log → steps_left log p ≤ k → next_in log last room (ran_in k log last room p) ≡ None
+  ends_in zero p u l = go (next_in log last room p) refl
     where
-      go : (t : Bool) → goes_on log last room p ≡ t → goes_on log last room p ≡ false
-      go true e = let f = falls p u e in absurd (omega (arith, f.1, l))
-      go false e = e
-  ends_in (suc k) p u l = go (goes_on log last room p) refl (λ e. ends_in k (further p) (falls p u e).0 (let f = falls p u e in omega (arith, f.1, l)))
+      go : (o : Option Next) → next_in log last room p ≡ o → next_in log last room p ≡ None
+      go (Some next) e = let f = falls p next u e in absurd (omega (arith, f.1, l))
+      go None e = e
+  ends_in (suc k) p u l = go (next_in log last room p) refl (λ next e. ends_in k (further next p) (falls p next u e).0 (let f = falls p next u e in omega (arith, f.1, l)))
     where
-      go : (t : Bool) → goes_on log last room p ≡ t
-          → (goes_on log last room p ≡ true → goes_on log last room (ran_in k log last room (further p)) ≡ false)
-          → goes_on log last room (cond t (ran_in k log last room (further p)) p) ≡ false
-      go true e more = more e
-      go false e more = e
+      go : (o : Option Next) → next_in log last room p ≡ o
+          → ((next : Next) → next_in log last room p ≡ Some next → next_in log last room (ran_in k log last room (further next p)) ≡ None)
+          → next_in log last room (option_map_or (λ next. ran_in k log last room (further next p)) o p) ≡ None
+      go (Some next) e more = more next e
+      go None e more = e
 
-  pub ran_ends : (p : Progress) → p.used ≤ length log → goes_on log last room (ran log last room p) ≡ false
+  pub ran_ends : (p : Progress) → p.used ≤ length log → next_in log last room (ran log last room p) ≡ None
   unfolding ran
   ran_ends p u = ends_in (steps_left log p) p u (omega arith)

@@ -6,7 +6,7 @@ use Rattle.records.specs.Log.{Held}
 use Rattle.records.specs.Run.{left_by, used_by, text_of}
 use Rattle.records.specs.declared.bench.Bench.{Bench}
 use Rattle.records.specs.declared.log.Next.{Next}
-use Rattle.records.specs.declared.log.Next.TheVariants.{Heading, Line, Last, Silence}
+use Rattle.records.specs.declared.log.Next.TheVariants.{Heading, Line, Last}
 
 -- Text was put at the place `at` of a buffer d, which is d' now; r is the place behind it.
 pub record Put (text : List ℕ) (at : ℕ) (d d' : List ℕ) (r : ℕ) : Type 0 where
@@ -24,4 +24,3 @@ abbrev pub Fits : Next → List ℕ → Type 0
 Fits Heading s = Unit
 Fits (Line item) s = size_of item ≤ length s
 Fits Last s = Unit
-Fits Silence s = Unit

@@ -1,5 +1,5 @@
 -- What a log means: the text that the bench prints of it (document 01, 'Bench program').
-use Rattle.std.specs.Prelude.{ℕ, zero, suc, ◌+◌, ◌%◌, ◌^◌, true, false, cond, List, ◌∷◌, ◌++◌, length, take, drop, replicate, ◌==◌, None}
+use Rattle.std.specs.Prelude.{ℕ, zero, suc, ◌+◌, ◌%◌, ◌^◌, true, false, cond, List, ◌∷◌, ◌++◌, length, take, drop, replicate, ◌==◌, Result, Ok, Err, None}
 use Rattle.octets.specs.Places.{part}
 use Rattle.packets.specs.declared.reading.End.{End}
 use Rattle.unit.specs.Owner.{unowned}
@@ -12,8 +12,7 @@ use Rattle.records.specs.Record.{read_record, size_of}
 use Rattle.records.specs.Text.{heading, record_line, end_line, bad_line}
 use Rattle.records.specs.declared.record.Item.{Item}
 use Rattle.records.specs.declared.record.Item.TheVariants.{Packet, TimeCode, Ticks}
-use Rattle.records.specs.declared.record.Record.{Record}
-use Rattle.records.specs.declared.record.Record.TheVariants.{Whole, Wrong, Cut}
+use Rattle.records.specs.declared.record.NoRecord.{NoRecord}
 use Rattle.records.specs.declared.bench.Bench.{Bench}
 use Rattle.records.specs.declared.bench.Stage.TheVariants.{Fresh}
 
@@ -106,10 +105,9 @@ abbrev pub last_line : List ℕ → Bench → List ℕ
 last_line s b = cond (length s == 0) (end_line b.items) (bad_line b.offset)
 
 -- By what a log begins with: a whole record, or none.
-abbrev pub by_record : Record → (Item → List ℕ) → List ℕ → List ℕ
-by_record (Whole item) whole none = whole item
-by_record Wrong whole none = none
-by_record Cut whole none = none
+abbrev pub by_record : Result Item NoRecord → (Item → List ℕ) → List ℕ → List ℕ
+by_record (Ok item) whole none = whole item
+by_record (Err why) whole none = none
 
 -- The lines from the record that s begins with on, for at most so many records.
 abbrev pub lines_in : ℕ → List ℕ → Held → List ℕ

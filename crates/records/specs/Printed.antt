@@ -1,10 +1,10 @@
 -- A log that is run by any number of calls of `run`: what they print (document 01, 'Bench program').
-use Rattle.std.specs.Prelude.{◌≡◌, ℕ, ◌+◌, ◌<◌, ◌≤◌, Bool, true, false, ◌⊎◌, List, [], ◌++◌, length, drop}
+use Rattle.std.specs.Prelude.{◌≡◌, ℕ, ◌+◌, ◌<◌, ◌≤◌, Bool, true, false, ◌⊎◌, List, [], ◌++◌, length, drop, Err}
 use Rattle.records.specs.Record.{read_record}
 use Rattle.records.specs.Text.{heading}
 use Rattle.records.specs.Log.{Held, start_held, lines, meaning}
 use Rattle.records.specs.Run.{longest_line, ran, begun}
-use Rattle.records.specs.declared.record.Record.TheVariants.{Cut}
+use Rattle.records.specs.declared.record.NoRecord.TheVariants.{Cut}
 use Rattle.records.specs.declared.bench.Stage.{Stage}
 use Rattle.records.specs.declared.bench.Stage.TheVariants.{Fresh, Running, Over}
 
@@ -43,8 +43,8 @@ OneCall =
 abbrev pub NoStandstill : Type 0
 NoStandstill =
     (h : Held) (part : List ℕ) (last : Bool) (room : ℕ) → longest_line (length h.reply) ≤ room → (ran part last room (begun h)).text ≡ []
-    → (h.bench.stage ≡ Over) ⊎ ((last ≡ false) × (read_record part ≡ Cut))
+    → (h.bench.stage ≡ Over) ⊎ ((last ≡ false) × (read_record part ≡ Err Cut))
 
 -- And then few bytes are left, so that more of the log fits behind them.
 abbrev pub CutIsShort : Type 0
-CutIsShort = (s : List ℕ) → read_record s ≡ Cut → length s < 7 + 4096
+CutIsShort = (s : List ℕ) → read_record s ≡ Err Cut → length s < 7 + 4096

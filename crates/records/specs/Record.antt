@@ -1,13 +1,13 @@
 -- A record of a log (document 01, 'Bench program'): mark 5A 57, kind, link, end, length (2 bytes), body; high byte first.
-use Rattle.std.specs.Prelude.{ℕ, ◌+◌, Bool, cond, not, ◌&&◌, ◌||◌, List, length, ◌==◌, nat_le, nat_lt, slice_index}
+use Rattle.std.specs.Prelude.{ℕ, ◌+◌, Bool, cond, not, ◌&&◌, ◌||◌, List, length, Result, Ok, Err, ◌==◌, nat_le, nat_lt, slice_index}
 use Rattle.octets.specs.Places.{part}
 use Rattle.octets.specs.Numbers.{number}
 use Rattle.packets.specs.declared.reading.End.{End}
 use Rattle.packets.specs.declared.reading.End.TheVariants.{Eop, Eep}
 use Rattle.records.specs.declared.record.Item.{Item}
 use Rattle.records.specs.declared.record.Item.TheVariants.{Packet, TimeCode, Ticks}
-use Rattle.records.specs.declared.record.Record.{Record}
-use Rattle.records.specs.declared.record.Record.TheVariants.{Whole, Wrong, Cut}
+use Rattle.records.specs.declared.record.NoRecord.{NoRecord}
+use Rattle.records.specs.declared.record.NoRecord.TheVariants.{Wrong, Cut}
 
 -- Document 01's number of each kind of record, and of each end.
 abbrev pub kind_number : Item → ℕ
@@ -45,11 +45,11 @@ item_of s =
     (cond (slice_index s 2 == 2) (TimeCode (slice_index s 7)) (Ticks (number (part 7 4 s))))
 
 -- The record that s begins with: what it asks for; that it is wrong; or that there are too few bytes to tell, or for it to be whole.
-unfoldable pub read_record : List ℕ → Record
+unfoldable pub read_record : List ℕ → Result Item NoRecord
 read_record s =
-    cond (nat_lt (length s) 7) Cut
-    (cond (not (is_head s)) Wrong
-    (cond (nat_lt (length s) (7 + body_size s)) Cut (Whole (item_of s))))
+    cond (nat_lt (length s) 7) (Err Cut)
+    (cond (not (is_head s)) (Err Wrong)
+    (cond (nat_lt (length s) (7 + body_size s)) (Err Cut) (Ok (item_of s))))
 
 -- How many bytes a record has.
 abbrev pub size_of : Item → ℕ

@@ -1,17 +1,19 @@
 -- A log that comes in parts, and a text that leaves in parts: what one call of `run` does with what it has. That all calls together print the
 -- meaning of the whole log is `PrintsMeaning`, in Printed.
-use Rattle.std.specs.Prelude.{ℕ, zero, suc, ◌+◌, ◌-◌, ◌*◌, Bool, true, false, cond, not, ◌&&◌, List, [], ◌++◌, length, drop, nat_le}
+use Rattle.std.specs.Prelude.{ℕ, zero, suc, ◌+◌, ◌-◌, ◌*◌, Bool, true, false, cond, List, [], ◌++◌, length, drop, nat_le, Option, Some, None, Result, Ok, Err}
+use Rattle.std.specs.Option.{option_map_or}
 use Rattle.records.specs.Record.{read_record, size_of}
 use Rattle.records.specs.Text.{heading}
 use Rattle.records.specs.Log.{Held, outcome_of, line_for, held_after, last_line}
-use Rattle.records.specs.declared.record.Record.{Record}
-use Rattle.records.specs.declared.record.Record.TheVariants.{Whole, Wrong, Cut}
+use Rattle.records.specs.declared.record.Item.{Item}
+use Rattle.records.specs.declared.record.NoRecord.{NoRecord}
+use Rattle.records.specs.declared.record.NoRecord.TheVariants.{Wrong, Cut}
 use Rattle.records.specs.declared.bench.Bench.{Bench}
 use Rattle.records.specs.declared.log.Ran.{Ran}
 use Rattle.records.specs.declared.bench.Stage.{Stage}
 use Rattle.records.specs.declared.bench.Stage.TheVariants.{Fresh, Running, Over}
 use Rattle.records.specs.declared.log.Next.{Next}
-use Rattle.records.specs.declared.log.Next.TheVariants.{Heading, Line, Last, Silence}
+use Rattle.records.specs.declared.log.Next.TheVariants.{Heading, Line, Last}
 
 -- All is printed.
 abbrev pub is_over : Stage → Bool
@@ -23,21 +25,15 @@ is_over Over = true
 
 -- Of what the bytes that are there begin with: the line of a record; the last line; or nothing yet, where that is no whole record and more bytes
 -- may come.
-abbrev pub next_for : Record → Bool → Next
-next_for (Whole item) last = Line item
-next_for Wrong last = Last
-next_for Cut last = cond last Last Silence
+abbrev pub next_for : Result Item NoRecord → Bool → Option Next
+next_for (Ok item) last = Some (Line item)
+next_for (Err Wrong) last = Some Last
+next_for (Err Cut) last = cond last (Some Last) None
 
-abbrev pub next_of : Stage → List ℕ → Bool → Next
-next_of Fresh s last = Heading
+abbrev pub next_of : Stage → List ℕ → Bool → Option Next
+next_of Fresh s last = Some Heading
 next_of Running s last = next_for (read_record s) last
-next_of Over s last = Silence
-
-abbrev pub is_silence : Next → Bool
-is_silence Heading = false
-is_silence (Line item) = false
-is_silence Last = false
-is_silence Silence = true
+next_of Over s last = None
 
 -- ---- a step
 
@@ -58,19 +54,16 @@ abbrev pub left_by : Next → List ℕ → Held → Held
 left_by Heading s h = held_at Running h
 left_by (Line item) s h = held_after (outcome_of item s h) (size_of item) h
 left_by Last s h = held_at Over h
-left_by Silence s h = h
 
 abbrev pub used_by : Next → ℕ
 used_by Heading = 0
 used_by (Line item) = size_of item
 used_by Last = 0
-used_by Silence = 0
 
 abbrev pub text_of : Next → List ℕ → Held → List ℕ
 text_of Heading s h = heading
 text_of (Line item) s h = line_for (outcome_of item s h) h
 text_of Last s h = last_line s h.bench
-text_of Silence s h = []
 
 abbrev pub stepped : Next → List ℕ → Progress → Progress
 stepped next s p = record {
@@ -86,17 +79,15 @@ stepped next s p = record {
 abbrev pub longest_line : ℕ → ℕ
 longest_line r = 67 + 2 * r
 
--- What is next where a call has got to; and that it goes on: there is room for any line, and something to print.
-abbrev pub next_in : List ℕ → Bool → Progress → Next
-next_in log last p = next_of p.held.bench.stage (drop p.used log) last
-
-abbrev pub goes_on : List ℕ → Bool → ℕ → Progress → Bool
-goes_on log last room p = nat_le (length p.text + longest_line (length p.held.reply)) room && not (is_silence (next_in log last p))
+-- What is next where a call has got to, if there is room for any line; and the call goes on while something is next.
+abbrev pub next_in : List ℕ → Bool → ℕ → Progress → Option Next
+next_in log last room p =
+    cond (nat_le (length p.text + longest_line (length p.held.reply)) room) (next_of p.held.bench.stage (drop p.used log) last) None
 
 abbrev pub ran_in : ℕ → List ℕ → Bool → ℕ → Progress → Progress
 ran_in zero log last room p = p
 ran_in (suc most) log last room p =
-    cond (goes_on log last room p) (ran_in most log last room (stepped (next_in log last p) (drop p.used log) p)) p
+    option_map_or (λ next. ran_in most log last room (stepped next (drop p.used log) p)) (next_in log last room p) p
 
 -- The heading and the last line are a step each, and there are no more records than bytes.
 abbrev pub steps : Stage → ℕ

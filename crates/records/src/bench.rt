@@ -7,7 +7,7 @@ use packets::Path;
 use unit::{Clock, Fields, Owner, Unit, Window, Windows};
 
 // How far the text has got: nothing printed, the heading printed, all printed.
-#[derive(Clone, Copy)]
+#[derive(Clone, Copy, PartialEq, Eq)]
 pub enum Stage {
     Fresh,
     Running,
@@ -18,11 +18,7 @@ impl Stage {
     pub fn is_over(self) -> bool
         ensures { result ≡ is_over self }
     {
-        match self {
-            Stage::Fresh => false,
-            Stage::Running => false,
-            Stage::Over => true,
-        }
+        self == Stage::Over
     }
 }
 
@@ -39,10 +35,9 @@ pub struct Bench {
 pub fn start() -> Bench
     ensures { result ≡ start_bench }
 {
-    let unit = bench_unit();
     Bench {
         stage: Stage::Fresh,
-        unit,
+        unit: bench_unit(),
         items: 0,
         offset: 0,
     }
@@ -82,11 +77,5 @@ fn bench_unit() -> Unit
 pub(crate) fn at_stage(stage: Stage, bench: Bench) -> Bench
     ensures { result ≡ Run·at_stage stage bench }
 {
-    let unit = bench.unit;
-    Bench {
-        stage,
-        unit,
-        items: bench.items,
-        offset: bench.offset,
-    }
+    Bench { stage, ..bench }
 }

@@ -9,4 +9,4 @@ mod text;
 
 pub use bench::{Bench, Stage, start};
 pub use log::{Ran, run};
-pub use record::{Item, Record, read_record};
+pub use record::{Item, NoRecord, read_record};

@@ -4,13 +4,13 @@ ghost use Rattle.octets.specs.Places.{placed};
 ghost use Rattle.records.specs.Record.{size_of};
 ghost use Rattle.records.specs.Text.{heading, record_line};
 ghost use Rattle.records.specs.Log.{called, bench_after, last_line};
-ghost use Rattle.records.specs.Run.{next_for as Run·next_for, next_of as Run·next_of, is_silence as Run·is_silence, at_stage as Run·at_stage, longest_line, run_of, answer_of};
+ghost use Rattle.records.specs.Run.{next_for as Run·next_for, next_of as Run·next_of, at_stage as Run·at_stage, longest_line, run_of, answer_of};
 ghost use Rattle.records.specs.Between.{Put, Says, Fits};
 ghost use Rattle.records.specs.declared.bench.Stage.TheVariants.{Running, Over};
 ghost use Rattle.records.specs.declared.log.Next.TheVariants.{Line};
 
 use crate::bench::{Bench, Stage, at_stage};
-use crate::record::{Item, Record};
+use crate::record::{Item, NoRecord};
 use crate::{record, text};
 use std::num::wrapping_add_u64;
 use unit::{Answer, Unit};
@@ -23,13 +23,12 @@ pub struct Ran {
     pub written: usize,
 }
 
-// What is printed next: the heading, the line of an item, the last line, or nothing.
+// What is printed next: the heading, the line of an item, or the last line.
 #[derive(Clone, Copy)]
 enum Next {
     Heading,
     Line(Item),
     Last,
-    Silence,
 }
 
 // What a step answers: the bench after it, how many bytes of the log it used, and the place behind its text.
@@ -62,15 +61,9 @@ pub fn run(
     let mut written = 0;
     while has_room(out.len() - written, reply.len()) {
         let rest = &log[used..];
-        let stage = held.stage;
-        let next = next_of(stage, rest, last);
-        if is_silence(next) {
-            return Ran {
-                bench: held,
-                used,
-                written,
-            };
-        }
+        let Some(next) = next_of(held.stage, rest, last) else {
+            break;
+        };
         let said = say(next, held, rest, memory, reply, out, written);
         held = said.bench;
         used += said.used;
@@ -93,39 +86,23 @@ fn has_room(room: usize, reply: usize) -> bool
     reply <= (room - 67) / 2
 }
 
-fn next_of(stage: Stage, log: &[u8], last: bool) -> Next
+fn next_of(stage: Stage, log: &[u8], last: bool) -> Option<Next>
     ensures { result ≡ Run·next_of stage log.now last }
 {
     match stage {
-        Stage::Fresh => Next::Heading,
+        Stage::Fresh => Some(Next::Heading),
         Stage::Running => next_for(record::read_record(log), last),
-        Stage::Over => Next::Silence,
+        Stage::Over => None,
     }
 }
 
-fn next_for(read: Record, last: bool) -> Next
+fn next_for(read: Result<Item, NoRecord>, last: bool) -> Option<Next>
     ensures { result ≡ Run·next_for read last }
 {
     match read {
-        Record::Whole(item) => Next::Line(item),
-        Record::Wrong => Next::Last,
-        Record::Cut => {
-            if last {
-                return Next::Last;
-            }
-            Next::Silence
-        }
-    }
-}
-
-fn is_silence(next: Next) -> bool
-    ensures { result ≡ Run·is_silence next }
-{
-    match next {
-        Next::Heading => false,
-        Next::Line(_) => false,
-        Next::Last => false,
-        Next::Silence => true,
+        Ok(item) => Some(Next::Line(item)),
+        Err(NoRecord::Cut) if !last => None,
+        Err(_) => Some(Next::Last),
     }
 }
 
@@ -146,11 +123,6 @@ fn say(
         Next::Heading => say_heading(bench, out, at),
         Next::Line(item) => say_item(item, bench, log, memory, reply, out, at),
         Next::Last => say_last(bench, log, out, at),
-        Next::Silence => Said {
-            bench,
-            used: 0,
-            behind: at,
-        },
     }
 }
 

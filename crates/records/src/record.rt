@@ -26,29 +26,28 @@ impl Item {
     }
 }
 
-// What bytes begin with: a whole record, a wrong one, or too few bytes to tell or to be whole.
+// Why bytes begin with no whole record: it is wrong, or there are too few bytes to tell or for it to be whole.
 #[derive(Clone, Copy)]
-pub enum Record {
-    Whole(Item),
+pub enum NoRecord {
     Wrong,
     Cut,
 }
 
 // Reads the record that the bytes begin with.
-pub fn read_record(log: &[u8]) -> Record
+pub fn read_record(log: &[u8]) -> Result<Item, NoRecord>
     ensures { result ≡ Record·read_record log.now }
 {
     if log.len() < 7 {
-        return Record::Cut;
+        return Err(NoRecord::Cut);
     }
     let size = body_size(log);
     if !is_head(log, size) {
-        return Record::Wrong;
+        return Err(NoRecord::Wrong);
     }
     if log.len() - 7 < size as usize {
-        return Record::Cut;
+        return Err(NoRecord::Cut);
     }
-    Record::Whole(item_of(log, size))
+    Ok(item_of(log, size))
 }
 
 fn body_size(log: &[u8]) -> u16
@@ -63,15 +62,16 @@ fn is_head(log: &[u8], size: u16) -> bool
     requires { (7 ≤ length log.now) × (size ≡ Record·body_size log.now) }
     ensures { result ≡ Record·is_head log.now }
 {
-    (log[0] == 0x5A) & (log[1] == 0x57) & is_right(log[2], log[3], log[4], size)
+    log[0] == 0x5A && log[1] == 0x57 && is_right(log[2], log[3], log[4], size)
 }
 
 fn is_right(kind: u8, link: u8, end: u8, size: u16) -> bool
     ensures { result ≡ Record·is_right kind link end size }
 {
-    (kind == 1) & (end <= 1) & (size <= 4096)
-        | (kind == 2) & (link == 0) & (end == 0) & (size == 1)
-        | (kind == 3) & (link == 0) & (end == 0) & (size == 4)
+    matches!(
+        (kind, link, end, size),
+        (1, _, 0..=1, 0..=4096) | (2, 0, 0, 1) | (3, 0, 0, 4)
+    )
 }
 
 // What a whole and right record asks for.
@@ -79,8 +79,7 @@ fn item_of(log: &[u8], size: u16) -> Item
     requires { (7 + size ≤ length log.now) × (Record·is_head log.now ≡ true) × (size ≡ Record·body_size log.now) }
     ensures { result ≡ item_of log.now }
 {
-    let kind = log[2];
-    match kind {
+    match log[2] {
         1 => Item::Packet(end_of(log[4]), log[3], size),
         2 => Item::TimeCode(log[7]),
         _ => Item::Ticks(octets::number4(log[7], log[8], log[9], log[10])),

@@ -1,6 +1,4 @@
 -- `records::log::say` meets its contract: by what is next.
-use Rattle.std.proofs.Common.{◌≡◌, ◌+◌, sym, refl, arith}
-use Rattle.octets.proofs.PlaceLaws.{placed_none}
 use Rattle.records.specs.declared.bench.Stage.TheVariants.{Running, Over}
 use Rattle.records.proofs.RunLaws.{stage_is}
 use Rattle.records.proofs.log.say.Goals as goal
@@ -20,9 +18,3 @@ pub returns-in-Last : goal.returns-in-Last
 returns-in-Last c =
     let t = c.say_last.ensures in
     rw c.in-Last.is (record { leaves = stage_is Over (record { bench = c.args.bench; memory = c.args.memory.now; reply = c.args.reply.now }) _ t.0; uses = t.1; prints = t.2 })
-
-pub returns-in-Silence : goal.returns-in-Silence
-returns-in-Silence c =
-    let a = c.args in
-    let e : a.at ≡ a.at + 0 = omega arith in
-    rw c.in-Silence.is (record { leaves = refl; uses = refl; prints = record { bytes = sym (placed_none a.at a.out.now); next = e } })
