@@ -4,119 +4,63 @@
 // written, ends it with a word on standard error, and without a last line.
 #![tactic(auto)]
 
-ghost use Rattle.std.specs.Prelude.{◌≡◌, ◌≤◌, length};
+ghost use Rattle.std.specs.Prelude.{◌≡◌};
 ghost use Rattle.records.specs.Log.{start_held};
 
-use records::Bench;
-use std::io::Read;
+use log::Log;
+use std::fmt;
 
-// The numbers under which the system knows the two outputs.
+mod log;
+
+// The number under which the system knows standard output.
 const STDOUT: i32 = 1;
 
-const STDERR: i32 = 2;
-
-// The bench, and what of the log is in the buffer and not used: the bytes from `from` up to `have`. `last` says that no more come, `done` that
-// nothing is left to do.
+// What ends the program before the log does.
 #[derive(Clone, Copy)]
-struct State {
-    bench: Bench,
-    from: usize,
-    have: usize,
-    last: bool,
-    done: bool,
+enum Broken {
+    Input,
+    Output,
+}
+
+impl fmt::Display for Broken {
+    fn fmt<W: fmt::Write>(&self, f: &mut fmt::Formatter<W>) -> fmt::Result {
+        f.write_str(match self {
+            Broken::Input => "standard input can't be read",
+            Broken::Output => "standard output can't be written",
+        })
+    }
 }
 
 fn main(rt: HostRuntime) {
-    let mut log = io::large_buffer();
-    let mut out = io::large_buffer();
     let mut memory = [0u8; 4096];
     let mut reply = [0u8; 8192];
-    all(&rt, &mut log, &mut memory, &mut reply, &mut out);
+    if let Err(broken) = all(&rt, &mut memory, &mut reply) {
+        let _ = eprintln!(rt; "bench: {broken}");
+    }
 }
 
-// A proved loop has to end, and nothing says that a log does. So it counts its turns down, from a number that no run uses up.
-fn all(rt: &HostRuntime, log: &mut [u8], memory: &mut [u8], reply: &mut [u8], out: &mut [u8])
+// Runs what is there of the log and writes the text. Where there is none, more of the log is wanted (NoStandstill, in records). A proved loop
+// has to end, and nothing says that a log does. So it counts its turns, up to a number that no run uses up.
+fn all(rt: &HostRuntime, memory: &mut [u8], reply: &mut [u8]) -> Result<(), Broken>
     requires { (memory.old ≡ start_held.memory) × (reply.old ≡ start_held.reply) }
 {
-    let mut state = State {
-        bench: records::start(),
-        from: 0,
-        have: 0,
-        last: false,
-        done: false,
-    };
-    let mut turns = u64::MAX;
-    while 0 < turns && !state.done {
-        state = turn(rt, state, log, memory, reply, out);
-        turns -= 1;
-    }
-}
-
-// Runs what is in the buffer and writes the text. Where there is none, more of the log is wanted (NoStandstill, in records).
-fn turn(
-    rt: &HostRuntime,
-    state: State,
-    log: &mut [u8],
-    memory: &mut [u8],
-    reply: &mut [u8],
-    out: &mut [u8],
-) -> State
-    requires { (state.from ≤ state.have) × (state.have ≤ length log.old) }
-    ensures { (result.from ≤ result.have) × (result.have ≤ length log.new) }
-{
-    let from = state.from;
-    let have = state.have;
-    let part = &log[from..have];
-    let ran = records::run(state.bench, part, state.last, memory, reply, out);
-    let bench = ran.bench;
-    let used = ran.used;
-    let written = ran.written;
-    let next = from + used;
-    if written == 0 {
-        return filled(rt, bench, log, from, have);
-    }
-    let stage = bench.stage;
-    let over = stage.is_over();
-    let wrote = io::write_all(STDOUT, &out[..written]);
-    if !wrote {
-        io::write_all(STDERR, b"bench: standard output can't be written\n");
-    }
-    State {
-        bench,
-        from: next,
-        have,
-        last: state.last,
-        done: over | !wrote,
-    }
-}
-
-// Moves what is not used to the start of the buffer, and reads once. It is less than the longest record (CutIsShort, in records), so there is
-// room to read into, and 0 bytes read are the end of the log.
-fn filled(rt: &HostRuntime, bench: Bench, log: &mut [u8], from: usize, have: usize) -> State
-    requires { (from ≤ have) × (have ≤ length log.old) }
-    ensures { (result.from ≤ result.have) × (result.have ≤ length log.new) }
-{
-    let kept = have - from;
-    octets::move_to_start(log, from, kept);
-    let free = &mut log[kept..];
-    let mut input = rt.stdin();
-    match input.read(free) {
-        Ok(more) => State {
-            bench,
-            from: 0,
-            have: kept + more,
-            last: more == 0,
-            done: false,
-        },
-        Err(_) => {
-            io::write_all(STDERR, b"bench: standard input can't be read\n");
-            State {
-                bench,
-                from: 0,
-                have: kept,
-                last: false,
-                done: true,
+    let mut log = Log::new();
+    let mut out = io::large_buffer();
+    let mut bench = records::start();
+    for _ in 0..u64::MAX {
+        let ran = records::run(bench, log.part(), log.last, memory, reply, &mut out);
+        bench = ran.bench;
+        if ran.written == 0 {
+            log.read_on(rt).map_err(|_| Broken::Input)?;
+        } else {
+            log.pass(ran.used);
+            if !io::write_all(STDOUT, &out[..ran.written]) {
+                return Err(Broken::Output);
+            }
+            if bench.stage.is_over() {
+                return Ok(());
             }
         }
     }
+    Ok(())
 }

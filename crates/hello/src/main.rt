@@ -3,16 +3,12 @@
 
 use packets::End;
 
-fn main() {
+fn main(rt: HostRuntime) {
     let bench = records::start();
     let mut memory = [0u8; 4096];
     let mut reply = [0u8; 64];
     // A read of four bytes at address 0, from initiator 67, which came on link 1.
     let packet = b"\x43\x01\x4C\x2A\x67\x00\x01\x00\x00\x00\x00\x00\x00\x00\x04\x40";
     let answer = unit::take_packet(bench.unit, packet, End::Eop, 1, &mut memory, &mut reply);
-    let fate = answer.fate;
-    io::print_decimal(1, fate.number() as u64);
-    io::write_all(1, b" ");
-    io::print_decimal(1, answer.length as u64);
-    io::write_all(1, b"\n");
+    let _ = println!(rt; "{} {}", answer.fate.number(), answer.length);
 }

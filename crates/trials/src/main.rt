@@ -3,11 +3,12 @@
 #![tactic(auto)]
 
 mod lines;
-mod show;
 mod units;
 
+use console::Runs;
+use units::Trial;
+
 fn main() {
-    let mut space = io::large_buffer();
-    let mut memory = [0u8; 65600];
-    lines::all(&mut space, &mut memory);
+    let mut trial = Trial::new();
+    trial.run_all();
 }

@@ -1,35 +1,29 @@
 // What an instruction byte says.
-use crate::show;
+use console::{Row, say};
 use packets::{Instruction, Kind};
 
 // Its kind; then type, code, the bits 5 to 2, r, the size of the header, and the reply's instruction.
-pub(crate) fn say(name: &[u8], byte: u8) {
+pub(crate) fn show(name: &[u8], byte: u8) {
     let i = Instruction { byte };
-    let form = i.reply_form();
-    show::text(name);
-    kind(i.kind());
-    show::line(&[
+    let bits = [
         i.packet_type(),
         i.code(),
-        one_if(i.is_write()),
-        one_if(i.is_verified()),
-        one_if(i.wants_reply()),
-        one_if(i.is_incrementing()),
+        u8::from(i.is_write()),
+        u8::from(i.is_verified()),
+        u8::from(i.wants_reply()),
+        u8::from(i.is_incrementing()),
         i.r(),
         i.header_size() as u8,
-        form.byte,
-    ]);
+        i.reply_form().byte,
+    ];
+    say!(name; ": {},{}\n", kind(i.kind()), Row(&bits));
 }
 
-fn kind(k: Kind) {
+fn kind(k: Kind) -> &'static str {
     match k {
-        Kind::Unused => show::text(b": unused,"),
-        Kind::Read => show::text(b": read,"),
-        Kind::ReadModifyWrite => show::text(b": read-modify-write,"),
-        Kind::Write => show::text(b": write,"),
+        Kind::Unused => "unused",
+        Kind::Read => "read",
+        Kind::ReadModifyWrite => "read-modify-write",
+        Kind::Write => "write",
     }
-}
-
-fn one_if(b: bool) -> u8 {
-    if b { 1 } else { 0 }
 }

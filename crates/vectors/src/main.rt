@@ -7,14 +7,14 @@ mod commands;
 mod edges;
 mod instructions;
 mod lines;
-mod show;
 mod times;
+
+use console::Runs;
 
 fn main() {
     annex::no_bytes();
     annex::table();
     edges::numbers_of_bytes();
     edges::bytes_of_numbers();
-    let mut space = io::large_buffer();
-    lines::all(&mut space);
+    lines::Vectors.run_all();
 }

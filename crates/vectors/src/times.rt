@@ -1,5 +1,5 @@
 // Time packets.
-use crate::show;
+use console::say;
 use packets::{End, Time, When};
 
 // The logical address and the time number of the unit that reads them.
@@ -13,20 +13,21 @@ pub(crate) fn read(name: &[u8], packet: &[u8], end: End) {
 }
 
 fn answer(name: &[u8], read: Option<Time>) {
-    show::text(name);
-    show::text(b": ");
-    io::print_decimal(1, packets::time_number(read) as u64);
+    say!(name; ": {}", packets::time_number(read));
     match read {
-        Some(t) => {
-            show::number(b", epoch ", t.epoch as u64, 2);
-            let when = t.when;
-            match when {
-                When::AtOnce => show::text(b", at once, "),
-                When::AtWrap => show::text(b", at the wrap, "),
-            }
-            io::print_hex(1, t.value, 14);
-        }
-        None => {}
+        Some(t) => say!(
+            ", epoch {:02x}, {}, {:014x}\n",
+            t.epoch,
+            when(t.when),
+            t.value
+        ),
+        None => say!("\n"),
     }
-    show::text(b"\n");
+}
+
+fn when(w: When) -> &'static str {
+    match w {
+        When::AtOnce => "at once",
+        When::AtWrap => "at the wrap",
+    }
 }

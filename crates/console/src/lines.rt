@@ -1,0 +1,78 @@
+// The lines of standard input.
+ghost use Rattle.std.specs.Prelude.{◌≡◌, ◌≤◌, ◌+◌, ◌-◌, IfOk, length};
+ghost use Rattle.octets.specs.Places.{part};
+ghost use Rattle.script.specs.Fields.{up_to, line_end};
+
+// Standard input, line by line, in a buffer of 64 KiB: the bytes from `from` up to `have` are read and not given out. `last` says that no
+// more come.
+#[derive(Drop)]
+pub(crate) struct Lines {
+    space: [u8; 65536],
+    from: usize,
+    have: usize,
+    last: bool,
+    ghost inside: { (from ≤ have) × (have ≤ 65536) },
+}
+
+// Why there is no next line: the input ended, or a line with its end does not fit the buffer.
+#[derive(Clone, Copy)]
+pub(crate) enum Stop {
+    Ended,
+    TooLong,
+}
+
+impl Lines {
+    pub(crate) fn new() -> Lines
+        ensures { result.have ≡ 0 }
+    {
+        Lines {
+            space: io::large_buffer(),
+            from: 0,
+            have: 0,
+            last: false,
+        }
+    }
+
+    // Gives the next line, without its end, which the last may lack. It waits for input only where no whole line is left.
+    pub(crate) fn next(&mut self) -> Result<&[u8], Stop>
+        ensures { IfOk result (λ line. up_to line_end line.now ≡ line.now) }
+    {
+        if !self.last && self.runnable() == 0 {
+            self.read_on();
+        }
+        if self.runnable() == 0 {
+            return Err(if self.last {
+                Stop::Ended
+            } else {
+                Stop::TooLong
+            });
+        }
+        let from = self.from;
+        let end = self.line_end();
+        self.from = self.have.min(end + 1);
+        Ok(&self.space[from..end])
+    }
+
+    // How many of the bytes that are not given out can be run: those of whole lines, and where no more come all.
+    fn runnable(&self) -> usize {
+        script::runnable(&self.space[self.from..self.have], self.last)
+    }
+
+    // The place of the first line end, or of the end of what is read.
+    fn line_end(&self) -> usize
+        ensures answers { result ≡ self.now.from + length (up_to line_end (part self.now.from (self.now.have - self.now.from) self.now.space)) }
+        ensures inside { result ≤ self.now.have }
+    {
+        self.from + script::line_size(&self.space[self.from..self.have])
+    }
+
+    // Moves what is read and not given out to the buffer's start, and reads until the buffer is full or the input ends.
+    fn read_on(&mut self) {
+        let kept = self.have - self.from;
+        octets::move_to_start(&mut self.space, self.from, kept);
+        let have = kept + io::read_full(0, &mut self.space[kept..]);
+        self.from = 0;
+        self.have = have;
+        self.last = have < self.space.len();
+    }
+}
