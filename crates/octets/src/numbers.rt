@@ -31,73 +31,6 @@ pub fn write_number(dst: &mut [u8], at: usize, width: usize, n: u64) -> bool
     copy_part(&bytes, 8 - width, width, dst, at)
 }
 
-// The number that bytes are worth: two, three, four or seven of them, which are already at hand.
-pub fn number2(a: u8, b: u8) -> u16
-    ensures { result ≡ number (a ∷ b ∷ []) }
-{
-    a as u16 * 0x100 + b as u16
-}
-
-pub fn number3(a: u8, b: u8, c: u8) -> u32
-    ensures { result ≡ number (a ∷ b ∷ c ∷ []) }
-{
-    number4(0, a, b, c)
-}
-
-pub fn number4(a: u8, b: u8, c: u8, d: u8) -> u32
-    ensures { result ≡ number (a ∷ b ∷ c ∷ d ∷ []) }
-{
-    a as u32 * 0x100_0000 + b as u32 * 0x1_0000 + c as u32 * 0x100 + d as u32
-}
-
-pub fn number7(a: u8, b: u8, c: u8, d: u8, e: u8, f: u8, g: u8) -> u64
-    ensures { result ≡ number (a ∷ b ∷ c ∷ d ∷ e ∷ f ∷ g ∷ []) }
-{
-    u64::from_octets([a, b, c, d, e, f, g])
-}
-
-// The lowest bytes of a number: two, three, four or seven of them, each by its shift. What is above them is dropped.
-pub fn bytes2(n: u16) -> [u8; 2]
-    ensures { result ≡ bytes_of 2 n }
-{
-    [((n >> 8) % 256) as u8, ((n >> 0) % 256) as u8]
-}
-
-pub fn bytes3(n: u32) -> [u8; 3]
-    ensures { result ≡ bytes_of 3 n }
-{
-    [
-        ((n >> 16) % 256) as u8,
-        ((n >> 8) % 256) as u8,
-        ((n >> 0) % 256) as u8,
-    ]
-}
-
-pub fn bytes4(n: u32) -> [u8; 4]
-    ensures { result ≡ bytes_of 4 n }
-{
-    [
-        ((n >> 24) % 256) as u8,
-        ((n >> 16) % 256) as u8,
-        ((n >> 8) % 256) as u8,
-        ((n >> 0) % 256) as u8,
-    ]
-}
-
-pub fn bytes7(n: u64) -> [u8; 7]
-    ensures { result ≡ bytes_of 7 n }
-{
-    [
-        ((n >> 48) % 256) as u8,
-        ((n >> 40) % 256) as u8,
-        ((n >> 32) % 256) as u8,
-        ((n >> 24) % 256) as u8,
-        ((n >> 16) % 256) as u8,
-        ((n >> 8) % 256) as u8,
-        ((n >> 0) % 256) as u8,
-    ]
-}
-
 // Whether n is below 256^width.
 fn fits_width(n: u64, width: usize) -> bool
     requires { width ≤ 8 }
@@ -106,7 +39,7 @@ fn fits_width(n: u64, width: usize) -> bool
     width == 8 || n >> (8 * width) == 0
 }
 
-// Numbers of N bytes: a type is one for each N of which it holds all numbers, and is named by it.
+// What is sent as N bytes, the most significant first: a number, of a type for each N that holds all of those.
 pub trait Octets<const N: usize> {
     // The number that it is.
     ghost value: { Self → ℕ };
@@ -215,4 +148,53 @@ impl Octets<8> for u64 {
     {
         self.to_be_bytes()
     }
+}
+
+// The same by a function for each width, for callers that have not yet moved.
+pub fn number2(a: u8, b: u8) -> u16
+    ensures { result ≡ number (a ∷ b ∷ []) }
+{
+    u16::from_octets([a, b])
+}
+
+pub fn bytes2(n: u16) -> [u8; 2]
+    ensures { result ≡ bytes_of 2 n }
+{
+    n.to_octets()
+}
+
+pub fn number3(a: u8, b: u8, c: u8) -> u32
+    ensures { result ≡ number (a ∷ b ∷ c ∷ []) }
+{
+    u32::from_octets([a, b, c])
+}
+
+pub fn bytes3(n: u32) -> [u8; 3]
+    ensures { result ≡ bytes_of 3 n }
+{
+    n.to_octets()
+}
+
+pub fn number4(a: u8, b: u8, c: u8, d: u8) -> u32
+    ensures { result ≡ number (a ∷ b ∷ c ∷ d ∷ []) }
+{
+    u32::from_octets([a, b, c, d])
+}
+
+pub fn bytes4(n: u32) -> [u8; 4]
+    ensures { result ≡ bytes_of 4 n }
+{
+    n.to_octets()
+}
+
+pub fn number7(a: u8, b: u8, c: u8, d: u8, e: u8, f: u8, g: u8) -> u64
+    ensures { result ≡ number (a ∷ b ∷ c ∷ d ∷ e ∷ f ∷ g ∷ []) }
+{
+    u64::from_octets([a, b, c, d, e, f, g])
+}
+
+pub fn bytes7(n: u64) -> [u8; 7]
+    ensures { result ≡ bytes_of 7 n }
+{
+    n.to_octets()
 }
