@@ -8,14 +8,15 @@ use Rattle.unit.specs.Calls.{Outcome}
 use Rattle.unit.specs.declared.unit.Unit.{Unit as TheUnit}
 use Rattle.unit.proofs.CallLaws.{packet_length, reply_fits_law, code_length, ticks_length}
 use Rattle.unit.specs.declared.calls.Answer.{Answer}
-use Rattle.records.specs.Between.{Put, Says, Fits}
+use Rattle.records.specs.Between.{Put, SameLent, held_in, Says, Fits}
+use Rattle.records.specs.declared.log.Held.{Held as HeldNow}
+use Rattle.records.specs.declared.text.Page.{Page}
 use Rattle.records.specs.Record.{read_record, size_of}
 use Rattle.records.specs.Text.{record_line}
 use Rattle.records.specs.Log.{number_after, Held, arrived_in, called, lent_by, outcome_of, bench_after, held_after}
 use Rattle.records.specs.declared.record.Item.{Item}
 use Rattle.records.specs.declared.record.Item.TheVariants.{Packet, TimeCode, Ticks}
-use Rattle.records.specs.Run.{next_for, next_of, Progress, at_stage, held_at, left_by, used_by, stepped, longest_line, next_in, ran_in, steps, steps_left, ran}
-use Rattle.records.specs.declared.bench.Bench.{Bench}
+use Rattle.records.specs.Run.{next_for, next_of, Progress, left_by, used_by, stepped, longest_line, next_in, ran_in, steps, steps_left, ran}
 use Rattle.records.specs.declared.bench.Stage.{Stage}
 use Rattle.records.specs.declared.bench.Stage.TheVariants.{Fresh, Running, Over}
 use Rattle.records.specs.declared.log.Next.{Next}
@@ -41,27 +42,23 @@ call_fits (Packet end link size) s u lent =
 call_fits (TimeCode byte) s u lent = (omega (arith, code_length u byte), refl)
 call_fits (Ticks count) s u lent = (omega (arith, ticks_length u count), refl)
 
-module _ (item : Item) (s : List ℕ) (h : Held) (a : Answer) (m r : List ℕ) (is : record { answer = a; memory = m; reply = r } ≡ outcome_of item s h) where
-  pub answer_fits : (a.length ≤ length r) × (length r ≡ length h.reply)
+module _ (item : Item) (s : List ℕ) (h h' : HeldNow) (a : Answer) (is : record { answer = a; memory = h'.memory.now; reply = h'.reply.now } ≡ outcome_of item s (held_in h)) where
+  pub answer_fits : (a.length ≤ length h'.reply.now) × (length h'.reply.now ≡ length h.reply.now)
   answer_fits =
-      subst (λ (o : Outcome). (o.answer.length ≤ length o.reply) × (length o.reply ≡ length h.reply)) (sym is)
-      (call_fits item s h.bench.unit (lent_by h))
+      subst (λ (o : Outcome). (o.answer.length ≤ length o.reply) × (length o.reply ≡ length h.reply.now)) (sym is)
+      (call_fits item s h.bench.unit (lent_by (held_in h)))
 
   -- a step that printed the line of a call
-  pub says_item : (at : ℕ) (d d' : List ℕ) (b : Bench) (size used written : ℕ) → size ≡ size_of item → b ≡ bench_after a size h.bench → used ≡ size
-      → Put (record_line (bench_after a size h.bench).items a.fate (take a.length r)) at d d' written
-      → Says (Line item) s h at d b m r d' used written
-  says_item at d d' b size used written z e u put = record {
-    leaves = (λ i. record { bench = e i; memory = m; reply = r }) ∙ ap (λ (o : Outcome). held_after o size h) is ∙ ap (λ (n : ℕ). held_after (outcome_of item s h) n h) z;
-    uses = u ∙ z;
+  pub says_item : {p p' : Page} {size : ℕ} → SameLent h h' → size ≡ size_of item
+      → Put (record_line (bench_after a size h.bench).items a.fate (take a.length h'.reply.now)) p p'
+      → Says (Line item) s h (record { bench = bench_after a size h.bench; memory = h'.memory; reply = h'.reply }) p p' size
+  says_item {p} {p'} {size} lent z put = record {
+    lent = record { memory = lent.memory; reply = lent.reply };
+    leaves = ap (λ (o : Outcome). held_after o size (held_in h)) is ∙ ap (λ (n : ℕ). held_after (outcome_of item s (held_in h)) n (held_in h)) z;
+    uses = z;
     prints =
-        subst (λ (o : Outcome). Put (record_line (number_after h.bench) o.answer.fate (take o.answer.length o.reply)) at d d' written) is put;
+        subst (λ (o : Outcome). Put (record_line (number_after h.bench) o.answer.fate (take o.answer.length o.reply)) p p') is put;
   }
-
--- and one that only went to another stage
-pub stage_is : (stage : Stage) (h : Held) (b : Bench) → b ≡ at_stage stage h.bench
-    → ◌≡◌ {A = Held} (record { bench = b; memory = h.memory; reply = h.reply }) (held_at stage h)
-stage_is stage h b e = λ i. record { bench = e i; memory = h.memory; reply = h.reply }
 
 -- ---- a step
 

@@ -89,8 +89,8 @@ fn item_of(log: &[u8], size: u16) -> Item
 fn end_of(byte: u8) -> End
     ensures { result ≡ end_of byte }
 {
-    if byte == 0 {
-        return End::Eop;
+    match byte {
+        0 => End::Eop,
+        _ => End::Eep,
     }
-    End::Eep
 }

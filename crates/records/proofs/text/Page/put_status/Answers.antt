@@ -1,5 +1,5 @@
--- `records::text::put_status` meets its contract: by what is told.
-use Rattle.records.proofs.text.put_status.Goals as goal
+-- `records::text::Page::put_status` meets its contract: by what is told.
+use Rattle.records.proofs.text.Page.put_status.Goals as goal
 
 pub put-requires : goal.put-requires
 put-requires c = rw c.in-Nothing.is at c.requires
