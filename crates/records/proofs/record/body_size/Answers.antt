@@ -7,4 +7,4 @@ use Rattle.records.proofs.record.body_size.Goals as goal
 pub returns : goal.returns
 returns c =
     let a = c.args in
-    c.number2.ensures ∙ ap number (sym (part_bytes 5 1 a.log.now (omega arith)))
+    c.number2.ensures ∙ ap number (sym (part_bytes 5 1 a.head.now (omega arith)))
