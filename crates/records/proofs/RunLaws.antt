@@ -1,8 +1,7 @@
 -- Laws of a run: how much room there is, and what a call does by one step after the other.
-use Rattle.std.proofs.Common.{◌≡◌, ℕ, zero, suc, ◌+◌, ◌-◌, ◌/◌, ◌<◌, ◌≤◌, Bool, true, false, cond, leb, Option, Some, None, Result, Ok, Err, List, length, take, drop, sym, refl, ap, ◌∙◌, subst, arith, length-drop}
-use Rattle.std.proofs.lemmas.Option.{none-some}
-use Rattle.std.specs.Option.{option_map_or, unwrap_or}
-use Rattle.octets.proofs.PlaceLaws.{same_test}
+use Rattle.std.proofs.Common.{◌≡◌, ℕ, zero, suc, ◌+◌, ◌-◌, ◌<◌, ◌≤◌, Bool, true, false, cond, leb, Option, Some, None, Result, Ok, Err, List, length, take, drop, sym, refl, ap, ◌∙◌, subst, arith, length-drop}
+use Rattle.std.proofs.lemmas.Option.{none-some, same_Some}
+use Rattle.std.specs.Option.{option_map_or}
 use Rattle.unit.specs.Given.{Lent}
 use Rattle.unit.specs.Calls.{Outcome}
 use Rattle.unit.specs.declared.unit.Unit.{Unit as TheUnit}
@@ -25,10 +24,6 @@ use Rattle.records.specs.declared.record.NoRecord.{NoRecord}
 use Rattle.records.specs.declared.record.NoRecord.TheVariants.{Wrong, Cut}
 use Rattle.records.proofs.RecordLaws.{whole_fits}
 use Rattle.records.proofs.Turns.{enough_turns}
-
-pub half_room : (room reply : ℕ) → 67 ≤ room → leb reply ((room - 67) / 2) ≡ leb (longest_line reply) room
-half_room room reply h =
-    same_test reply ((room - 67) / 2) (longest_line reply) room (λ k. omega (arith, k, h)) (λ l. omega (arith, l, h))
 
 -- ---- a call
 
@@ -62,20 +57,16 @@ module _ (item : Item) (s : List ℕ) (h h' : HeldNow) (a : Answer) (is : record
 
 -- ---- a step
 
--- an option of one step has just that
-pub some_is : (a b : Next) → Some a ≡ Some b → a ≡ b
-some_is a b e = ap (λ (o : Option Next). unwrap_or o a) e
-
 -- it asks for no more than there is
 next_for_fits : (r : Result Item NoRecord) (last : Bool) (s : List ℕ) → ((item : Item) → r ≡ Ok item → (7 ≤ size_of item) × (size_of item ≤ length s))
     → (next : Next) → next_for r last ≡ Some next → Fits next s
-next_for_fits (Ok item) last s f next e = rw (sym (some_is (Line item) next e)) (f item refl).1
-next_for_fits (Err Wrong) last s f next e = rw (sym (some_is Last next e)) tt
-next_for_fits (Err Cut) true s f next e = rw (sym (some_is Last next e)) tt
+next_for_fits (Ok item) last s f next e = rw (sym (same_Some (Line item) next e)) (f item refl).1
+next_for_fits (Err Wrong) last s f next e = rw (sym (same_Some Last next e)) tt
+next_for_fits (Err Cut) true s f next e = rw (sym (same_Some Last next e)) tt
 next_for_fits (Err Cut) false s f next e = absurd (none-some next e)
 
 pub next_fits : (stage : Stage) (s : List ℕ) (last : Bool) (next : Next) → next_of stage s last ≡ Some next → Fits next s
-next_fits Fresh s last next e = rw (sym (some_is Heading next e)) tt
+next_fits Fresh s last next e = rw (sym (same_Some Heading next e)) tt
 next_fits Running s last next e = next_for_fits (read_record s) last s (whole_fits s) next e
 next_fits Over s last next e = absurd (none-some next e)
 
@@ -100,14 +91,14 @@ for_falls : (r : Result Item NoRecord) (log : List ℕ) (used : ℕ) (last : Boo
 for_falls (Ok item) log used last u f next e =
     let g = f item refl in
     let n = length-drop used log in
-    subst (Falls Running (length log) used) (some_is (Line item) next e) (omega (arith, g, n, u), omega (arith, g, n, u))
-for_falls (Err Wrong) log used last u f next e = subst (Falls Running (length log) used) (some_is Last next e) (omega (arith, u), omega (arith, u))
-for_falls (Err Cut) log used true u f next e = subst (Falls Running (length log) used) (some_is Last next e) (omega (arith, u), omega (arith, u))
+    subst (Falls Running (length log) used) (same_Some (Line item) next e) (omega (arith, g, n, u), omega (arith, g, n, u))
+for_falls (Err Wrong) log used last u f next e = subst (Falls Running (length log) used) (same_Some Last next e) (omega (arith, u), omega (arith, u))
+for_falls (Err Cut) log used true u f next e = subst (Falls Running (length log) used) (same_Some Last next e) (omega (arith, u), omega (arith, u))
 for_falls (Err Cut) log used false u f next e = absurd (none-some next e)
 
 step_falls : (stage : Stage) (log : List ℕ) (used : ℕ) (last : Bool) → used ≤ length log
     → (next : Next) → next_of stage (drop used log) last ≡ Some next → Falls stage (length log) used next
-step_falls Fresh log used last u next e = subst (Falls Fresh (length log) used) (some_is Heading next e) (omega (arith, u), omega (arith, u))
+step_falls Fresh log used last u next e = subst (Falls Fresh (length log) used) (same_Some Heading next e) (omega (arith, u), omega (arith, u))
 step_falls Running log used last u next e = for_falls (read_record (drop used log)) log used last u (whole_fits (drop used log)) next e
 step_falls Over log used last u next e = absurd (none-some next e)
 

@@ -1,10 +1,9 @@
 -- Laws of text: pieces put one behind the other are one text, digits are spelt from the last to the first, and how long a line can be.
-use Rattle.std.proofs.Common.{◌≡◌, ℕ, zero, suc, ◌+◌, ◌*◌, ◌/◌, ◌%◌, ◌^◌, ◌<◌, ◌≤◌, Bool, true, false, cond, eqb, ltb, List, [], ◌∷◌, ◌++◌, length, get_or, take, set, sym, refl, ap, ◌∙◌, add-one, arith, length-append, length-take-le, take-suc, le-ltb, lt-ltb, eqb-true}
-use mathlib.Core.Bool.{false≢true}
+use Rattle.std.proofs.Common.{◌≡◌, ℕ, zero, suc, ◌+◌, ◌*◌, ◌/◌, ◌%◌, ◌^◌, ◌<◌, ◌≤◌, Bool, true, false, cond, ltb, List, [], ◌∷◌, ◌++◌, length, get_or, take, set, refl, ap, ◌∙◌, add-one, arith, length-append, length-take-le, take-suc, le-ltb, lt-ltb}
 use native.Mathlib.Nat.{pow-succ'}
 use lib.Seq.{sets-eq}
 use Rattle.octets.specs.Places.{placed}
-use Rattle.octets.proofs.PlaceLaws.{placed_none, length_placed, placed_on}
+use Rattle.octets.proofs.PlaceLaws.{length_placed, placed_on}
 use Rattle.unit.specs.Fate.{fate_number, fate_status}
 use Rattle.unit.specs.declared.fate.Fate.{Fate}
 use Rattle.unit.specs.declared.fate.Told.{Told}
@@ -32,10 +31,6 @@ line_rooms p k fate s h =
     let third = start_room p (one ++ two ++ three) (ended (reply_text s)) h in
     let second = start_room p (one ++ two) three third in
     (start_room p one two second, second, third)
-
--- no text leaves the page as it is
-pub put_none : (p : Page) → Put [] p p
-put_none p = record { same_reference = refl; bytes = sym (placed_none p.at p.out.now); next = omega arith }
 
 module _ {s : List ℕ} {p p' : Page} (put : Put s p p') where
   pub put_length : HasRoom s p → length p'.out.now ≡ length p.out.now
@@ -106,12 +101,12 @@ decimal_more n h l =
 
 -- ---- a reply's text
 
-pub reply_none : (s : List ℕ) → eqb (length s) 0 ≡ true → reply_text s ≡ decimal 0
+pub reply_none : (s : List ℕ) → length s ≡ 0 → reply_text s ≡ decimal 0
 reply_none [] e = refl
-reply_none (b ∷ bs) e = let z = eqb-true (length (b ∷ bs)) 0 e in absurd (omega arith)
+reply_none (b ∷ bs) e = absurd (omega arith)
 
-pub reply_shown : (s : List ℕ) → eqb (length s) 0 ≡ false → reply_text s ≡ spaced (decimal (length s)) ++ hexes s
-reply_shown [] some = absurd (false≢true (sym some))
+pub reply_shown : (s : List ℕ) → (length s ≡ 0 → ⊥) → reply_text s ≡ spaced (decimal (length s)) ++ hexes s
+reply_shown [] some = absurd (some refl)
 reply_shown (b ∷ bs) some = refl
 
 -- ---- how long a line can be

@@ -41,6 +41,7 @@ impl Page<'_> {
         self.put(&[behind]);
     }
 
+    // Kept: digits by hand, since `write!` promises its text only where it answers Ok, and `run` has no refusal.
     fn put_decimal(&mut self, n: u64)
         requires { HasRoom (decimal n) self.old }
         ensures { Put (decimal n) self.old self.new }
