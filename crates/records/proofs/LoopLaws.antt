@@ -8,7 +8,7 @@ use Rattle.records.specs.declared.log.Held.{Held as HeldNow}
 use Rattle.records.specs.declared.text.Page.{Page}
 use Rattle.records.specs.Text.{end_line, bad_line}
 use Rattle.records.specs.Log.{number_after, Held, lent_by, outcome_of, last_line}
-use Rattle.records.specs.Run.{next_of, Progress, text_of, stepped, longest_line, next_in, steps_left, ran, begun, answer_of}
+use Rattle.records.specs.Run.{next_of, Progress, text_of, stepped, longest_line, next_step, steps_left, ran, begun, answer_of}
 use Rattle.records.specs.declared.bench.Bench.{Bench}
 use Rattle.records.specs.declared.log.Ran.{Ran}
 use Rattle.records.specs.declared.log.Next.{Next}
@@ -77,7 +77,7 @@ module _ (log : List ℕ) (last : Bool) (h₀ : HeldNow) (p₀ : Page) where
       pub has_line : HasLine h p
       has_line = let r = leb-true (longest_line (length h.reply.now)) (length p.out.now - p.at) room in let i = got.inside in omega arith
 
-      goes : next_in log last all here ≡ Some next
+      goes : next_step log last all here ≡ Some next
       goes = rw (le-leb (length (take p.at p.out.now) + longest_line (length h.reply.now)) all (omega (arith, text_is, has_line, got.long))) is
 
       pub got_next : (h' : HeldNow) (p' : Page) (u : ℕ) → Says next (drop used log) h h' p p' u
@@ -111,19 +111,19 @@ module _ (log : List ℕ) (last : Bool) (h₀ : HeldNow) (p₀ : Page) where
           )
 
     -- no turn more: no room, or nothing to print
-    pub stops_full : leb (longest_line (length h.reply.now)) (length p.out.now - p.at) ≡ false → next_in log last all here ≡ None
+    pub stops_full : leb (longest_line (length h.reply.now)) (length p.out.now - p.at) ≡ false → next_step log last all here ≡ None
     stops_full e =
         let full = leb-false (longest_line (length h.reply.now)) (length p.out.now - p.at) e in
         rw (lt-leb (length (take p.at p.out.now) + longest_line (length h.reply.now)) all (omega (arith, text_is, full, got.inside, got.long)))
 
-    pub stops_silent : next_of h.bench.stage (drop used log) last ≡ None → next_in log last all here ≡ None
+    pub stops_silent : next_of h.bench.stage (drop used log) last ≡ None → next_step log last all here ≡ None
     stops_silent e = go (leb (length (take p.at p.out.now) + longest_line (length h.reply.now)) all)
       where
         go : (t : Bool) → cond t (next_of h.bench.stage (drop used log) last) None ≡ None
         go true = e
         go false = refl
 
-    module _ (stops : next_in log last all here ≡ None) where
+    module _ (stops : next_step log last all here ≡ None) where
       done : ran log last all first ≡ here
       done = sym got.same ∙ ran_stop log last all here stops
 

@@ -8,7 +8,7 @@ use Rattle.unit.specs.declared.fate.Fate.{Fate}
 use Rattle.records.specs.Record.{read_record, size_of}
 use Rattle.records.specs.Text.{decimal, spaced, ended, status_text, reply_text, record_line, heading, end_line, bad_line}
 use Rattle.records.specs.Log.{start_held, number_after, Held, lent_by, outcome_of, line_for, last_line, lines}
-use Rattle.records.specs.Run.{next_for, next_of, Progress, left_by, used_by, text_of, longest_line, next_in, ran, begun}
+use Rattle.records.specs.Run.{next_for, next_of, Progress, left_by, used_by, text_of, longest_line, next_step, ran, begun}
 use Rattle.records.specs.Printed.{by_stage, to_come, Calls, none, call, PrintsMeaning, OneCall, NoStandstill, CutIsShort}
 use Rattle.records.specs.declared.record.Item.{Item}
 use Rattle.records.specs.declared.record.NoRecord.{NoRecord}
@@ -86,7 +86,7 @@ module _ (part : List ℕ) (last : Bool) (room : ℕ) (h : Held) where
   call_prints more ends =
       ran_is part last room (λ q. to_come h (part ++ more) ≡ q.text ++ to_come q.held (drop q.used part ++ more)) step (begun h) (omega arith) refl
     where
-      step : (q : Progress) (next : Next) → q.used ≤ length part → next_in part last room q ≡ Some next → to_come h (part ++ more) ≡ q.text ++ to_come q.held (drop q.used part ++ more)
+      step : (q : Progress) (next : Next) → q.used ≤ length part → next_step part last room q ≡ Some next → to_come h (part ++ more) ≡ q.text ++ to_come q.held (drop q.used part ++ more)
           → to_come h (part ++ more) ≡ (further part last room next q).text ++ to_come (further part last room next q).held (drop (further part last room next q).used part ++ more)
       step q next u e so =
           let s = drop q.used part in

@@ -15,7 +15,7 @@ use Rattle.records.specs.Text.{record_line}
 use Rattle.records.specs.Log.{number_after, Held, arrived_in, called, lent_by, outcome_of, bench_after, held_after}
 use Rattle.records.specs.declared.record.Item.{Item}
 use Rattle.records.specs.declared.record.Item.TheVariants.{Packet, TimeCode, Ticks}
-use Rattle.records.specs.Run.{next_for, next_of, Progress, left_by, used_by, stepped, longest_line, next_in, ran_in, steps, steps_left, ran}
+use Rattle.records.specs.Run.{next_for, next_of, Progress, left_by, used_by, stepped, longest_line, next_in, next_step, ran_in, steps, steps_left, ran}
 use Rattle.records.specs.declared.bench.Stage.{Stage}
 use Rattle.records.specs.declared.bench.Stage.TheVariants.{Fresh, Running, Over}
 use Rattle.records.specs.declared.log.Next.{Next}
@@ -105,18 +105,18 @@ step_falls Over log used last u next e = absurd (none-some next e)
 -- ---- a call, step by step
 
 module _ (log : List ℕ) (last : Bool) (room : ℕ) where
-  -- what is next
-  pub next_there : (p : Progress) (next : Next) → next_in log last room p ≡ Some next → next_of p.held.bench.stage (drop p.used log) last ≡ Some next
+  -- a step is what is next
+  pub next_there : (p : Progress) (next : Next) → next_step log last room p ≡ Some next → next_in log last p ≡ Some next
   next_there p next e = go (leb (length p.text + longest_line (length p.held.reply)) room) e
     where
-      go : (t : Bool) → cond t (next_of p.held.bench.stage (drop p.used log) last) None ≡ Some next → next_of p.held.bench.stage (drop p.used log) last ≡ Some next
+      go : (t : Bool) → cond t (next_in log last p) None ≡ Some next → next_in log last p ≡ Some next
       go true e = e
       go false e = absurd (none-some next e)
 
   abbrev pub further : Next → Progress → Progress
   further next p = stepped next (drop p.used log) p
 
-  pub falls : (p : Progress) (next : Next) → p.used ≤ length log → next_in log last room p ≡ Some next
+  pub falls : (p : Progress) (next : Next) → p.used ≤ length log → next_step log last room p ≡ Some next
       → ((further next p).used ≤ length log) × (steps_left log (further next p) < steps_left log p)
   falls p next u e =
       let f = step_falls p.held.bench.stage log p.used last u next (next_there p next e) in
@@ -125,20 +125,20 @@ module _ (log : List ℕ) (last : Bool) (room : ℕ) where
 
   -- more turns than there are steps left make no difference
   spare : (k : ℕ) (p : Progress) → p.used ≤ length log → steps_left log p ≤ k → ran_in (suc k) log last room p ≡ ran_in k log last room p
-  spare zero p u l = go (next_in log last room p) refl
+  spare zero p u l = go (next_step log last room p) refl
     where
-      go : (o : Option Next) → next_in log last room p ≡ o → option_map_or (λ next. further next p) o p ≡ p
+      go : (o : Option Next) → next_step log last room p ≡ o → option_map_or (λ next. further next p) o p ≡ p
       go (Some next) e = let f = falls p next u e in absurd (omega (arith, f.1, l))
       go None e = refl
-  spare (suc k) p u l = go (next_in log last room p) refl (λ next e. spare k (further next p) (falls p next u e).0 (let f = falls p next u e in omega (arith, f.1, l)))
+  spare (suc k) p u l = go (next_step log last room p) refl (λ next e. spare k (further next p) (falls p next u e).0 (let f = falls p next u e in omega (arith, f.1, l)))
     where
-      go : (o : Option Next) → next_in log last room p ≡ o
-          → ((next : Next) → next_in log last room p ≡ Some next → ran_in (suc k) log last room (further next p) ≡ ran_in k log last room (further next p))
+      go : (o : Option Next) → next_step log last room p ≡ o
+          → ((next : Next) → next_step log last room p ≡ Some next → ran_in (suc k) log last room (further next p) ≡ ran_in k log last room (further next p))
           → option_map_or (λ next. ran_in (suc k) log last room (further next p)) o p ≡ option_map_or (λ next. ran_in k log last room (further next p)) o p
       go (Some next) e more = more next e
       go None e more = refl
 
-  pub ran_next : (p : Progress) (next : Next) → p.used ≤ length log → next_in log last room p ≡ Some next → ran log last room p ≡ ran log last room (further next p)
+  pub ran_next : (p : Progress) (next : Next) → p.used ≤ length log → next_step log last room p ≡ Some next → ran log last room p ≡ ran log last room (further next p)
   unfolding ran
   ran_next p next u e = go (steps_left log p) refl
     where
@@ -149,7 +149,7 @@ module _ (log : List ℕ) (last : Bool) (room : ℕ) where
           rw e
           (enough_turns (λ k. ran_in k log last room (further next p)) (steps_left log (further next p)) (λ k l. spare k (further next p) g.0 l) n (omega (arith, g.1, f)))
 
-  pub ran_stop : (p : Progress) → next_in log last room p ≡ None → ran log last room p ≡ p
+  pub ran_stop : (p : Progress) → next_step log last room p ≡ None → ran log last room p ≡ p
   unfolding ran
   ran_stop p e = go (steps_left log p)
     where
@@ -158,13 +158,13 @@ module _ (log : List ℕ) (last : Bool) (room : ℕ) where
       go (suc n) = rw e
 
   -- what holds at the start and after every step holds at the end; and there no step follows
-  module _ (Q : Progress → Type 0) (step : (q : Progress) (next : Next) → q.used ≤ length log → next_in log last room q ≡ Some next → Q q → Q (further next q)) where
+  module _ (Q : Progress → Type 0) (step : (q : Progress) (next : Next) → q.used ≤ length log → next_step log last room q ≡ Some next → Q q → Q (further next q)) where
     runs_in : (k : ℕ) (p : Progress) → p.used ≤ length log → Q p → Q (ran_in k log last room p)
     runs_in zero p u q = q
     runs_in (suc k) p u q =
-        go (next_in log last room p) refl (λ next e. runs_in k (further next p) (falls p next u e).0 (step p next u e q))
+        go (next_step log last room p) refl (λ next e. runs_in k (further next p) (falls p next u e).0 (step p next u e q))
       where
-        go : (o : Option Next) → next_in log last room p ≡ o → ((next : Next) → next_in log last room p ≡ Some next → Q (ran_in k log last room (further next p)))
+        go : (o : Option Next) → next_step log last room p ≡ o → ((next : Next) → next_step log last room p ≡ Some next → Q (ran_in k log last room (further next p)))
             → Q (option_map_or (λ next. ran_in k log last room (further next p)) o p)
         go (Some next) e more = more next e
         go None e more = q
@@ -173,20 +173,20 @@ module _ (log : List ℕ) (last : Bool) (room : ℕ) where
     unfolding ran
     ran_is p u q = runs_in (steps_left log p) p u q
 
-  ends_in : (k : ℕ) (p : Progress) → p.used ≤ length log → steps_left log p ≤ k → next_in log last room (ran_in k log last room p) ≡ None
-  ends_in zero p u l = go (next_in log last room p) refl
+  ends_in : (k : ℕ) (p : Progress) → p.used ≤ length log → steps_left log p ≤ k → next_step log last room (ran_in k log last room p) ≡ None
+  ends_in zero p u l = go (next_step log last room p) refl
     where
-      go : (o : Option Next) → next_in log last room p ≡ o → next_in log last room p ≡ None
+      go : (o : Option Next) → next_step log last room p ≡ o → next_step log last room p ≡ None
       go (Some next) e = let f = falls p next u e in absurd (omega (arith, f.1, l))
       go None e = e
-  ends_in (suc k) p u l = go (next_in log last room p) refl (λ next e. ends_in k (further next p) (falls p next u e).0 (let f = falls p next u e in omega (arith, f.1, l)))
+  ends_in (suc k) p u l = go (next_step log last room p) refl (λ next e. ends_in k (further next p) (falls p next u e).0 (let f = falls p next u e in omega (arith, f.1, l)))
     where
-      go : (o : Option Next) → next_in log last room p ≡ o
-          → ((next : Next) → next_in log last room p ≡ Some next → next_in log last room (ran_in k log last room (further next p)) ≡ None)
-          → next_in log last room (option_map_or (λ next. ran_in k log last room (further next p)) o p) ≡ None
+      go : (o : Option Next) → next_step log last room p ≡ o
+          → ((next : Next) → next_step log last room p ≡ Some next → next_step log last room (ran_in k log last room (further next p)) ≡ None)
+          → next_step log last room (option_map_or (λ next. ran_in k log last room (further next p)) o p) ≡ None
       go (Some next) e more = more next e
       go None e more = e
 
-  pub ran_ends : (p : Progress) → p.used ≤ length log → next_in log last room (ran log last room p) ≡ None
+  pub ran_ends : (p : Progress) → p.used ≤ length log → next_step log last room (ran log last room p) ≡ None
   unfolding ran
   ran_ends p u = ends_in (steps_left log p) p u (omega arith)

@@ -1,6 +1,6 @@
 -- `records::log::run` meets its contract: each turn is a step of the run that is promised (LoopLaws).
 use Rattle.std.proofs.Common.{◌≡◌, ℕ, ◌-◌, leb, List, None, length, take, drop, sym, ap, ◌∙◌, rules}
-use Rattle.records.specs.Run.{next_of, next_in, longest_line}
+use Rattle.records.specs.Run.{next_of, next_step, longest_line}
 use Rattle.records.proofs.LoopLaws.{paired, rest_is, reached, has_line, got_next, stops_full, stops_silent, got_all}
 use Rattle.records.proofs.RunLaws.{next_fits}
 use Rattle.records.proofs.log.run.Goals as goal
@@ -37,7 +37,7 @@ returns c =
     let l = c.loop-rest in
     let a = c.args in
     let room = ap (leb (longest_line (length l.held.reply.now))) (sym c.room.ensures) ∙ sym c.has_room.ensures in
-    let stops : next_in a.log.now a.last (length a.out.now) (reached l.held l.used l.page) ≡ None = elim c.loop-rest-test.branch [
+    let stops : next_step a.log.now a.last (length a.out.now) (reached l.held l.used l.page) ≡ None = elim c.loop-rest-test.branch [
       | else-loop-rest-test w ↦ stops_full _ _ _ _ l.held l.used l.page l.invariant (room ∙ w.loop-rest-test.false)
       | then-loop-rest-test+in_default w ↦ stops_silent _ _ _ _ l.held l.used l.page l.invariant
           (ap (λ (s : List ℕ). next_of l.held.bench.stage s a.last) (sym (rest_is a.log.now l.used)) ∙ sym w.next_of.ensures ∙ w.in_default.is)
