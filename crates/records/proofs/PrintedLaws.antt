@@ -1,6 +1,6 @@
 -- Calls of `run` print what a log means, however it is cut into parts; one call with room enough prints all of it; and none stands still.
 use Rattle.std.proofs.Common.{◌≡◌, ℕ, ◌+◌, ◌≤◌, Bool, true, false, cond, eqb, ◌⊎◌, Some, None, Result, Ok, Err, List, [], ◌∷◌, ◌++◌, length, take, drop, sym, refl, ap, ◌∙◌, subst, inl, inr, ⊎_elim, append_assoc, append-nil, arith, length-append, drop-drop, le-leb}
-use Rattle.std.proofs.lemmas.Option.{none-some}
+use Rattle.std.proofs.lemmas.Option.{none-some, same_Some}
 use mathlib.Core.Bool.{false≢true}
 use lib.ListN.{length-replicate}
 use Rattle.unit.specs.Fate.{fate_number, fate_status}
@@ -8,7 +8,7 @@ use Rattle.unit.specs.declared.fate.Fate.{Fate}
 use Rattle.records.specs.Record.{read_record, size_of}
 use Rattle.records.specs.Text.{decimal, spaced, ended, status_text, reply_text, record_line, heading, end_line, bad_line}
 use Rattle.records.specs.Log.{start_held, number_after, Held, lent_by, outcome_of, line_for, last_line, lines}
-use Rattle.records.specs.Run.{next_for, next_of, Progress, left_by, used_by, text_of, longest_line, next_in, ran, begun}
+use Rattle.records.specs.Run.{next_for, next_of, Progress, left_by, used_by, text_of, longest_line, next_step, ran, begun}
 use Rattle.records.specs.Printed.{by_stage, to_come, Calls, none, call, PrintsMeaning, OneCall, NoStandstill, CutIsShort}
 use Rattle.records.specs.declared.record.Item.{Item}
 use Rattle.records.specs.declared.record.NoRecord.{NoRecord}
@@ -18,7 +18,7 @@ use Rattle.records.specs.declared.bench.Stage.TheVariants.{Fresh, Running, Over}
 use Rattle.records.specs.declared.log.Next.{Next}
 use Rattle.records.specs.declared.log.Next.TheVariants.{Heading, Line, Last}
 use Rattle.records.proofs.RecordLaws.{cut_short}
-use Rattle.records.proofs.RunLaws.{call_fits, some_is, next_there, further, ran_is, ran_ends}
+use Rattle.records.proofs.RunLaws.{call_fits, next_there, further, ran_is, ran_ends}
 use Rattle.records.proofs.LogLaws.{after, stage_aside, item_first, wrong_first, cut_last}
 
 -- ---- a step prints what comes first of what is to come
@@ -30,19 +30,19 @@ module _ (h : Held) (s more : List ℕ) where
   running : h.bench.stage ≡ Running → (r : Result Item NoRecord) (last : Bool) → read_record s ≡ r → (last ≡ true → more ≡ []) → (next : Next) → next_for r last ≡ Some next
       → Comes Running next
   running is (Ok item) last e end next some =
-      subst (Comes Running) (some_is (Line item) next some)
+      subst (Comes Running) (same_Some (Line item) next some)
       (item_first h s more item e
       ∙ ap (λ (stage : Stage). line_for (outcome_of item s h) h ++ by_stage stage (lines (drop (size_of item) s ++ more) (after item s h))) (sym is))
   running is (Err Wrong) last e end next some =
-      subst (Comes Running) (some_is Last next some) (wrong_first h s more e ∙ sym (append-nil (last_line s h.bench)))
+      subst (Comes Running) (same_Some Last next some) (wrong_first h s more e ∙ sym (append-nil (last_line s h.bench)))
   running is (Err Cut) true e end next some =
-      subst (Comes Running) (some_is Last next some) (cut_last h s more e (end refl) ∙ sym (append-nil (last_line s h.bench)))
+      subst (Comes Running) (same_Some Last next some) (cut_last h s more e (end refl) ∙ sym (append-nil (last_line s h.bench)))
   running is (Err Cut) false e end next some = absurd (none-some next some)
 
   comes : (stage : Stage) → h.bench.stage ≡ stage → (last : Bool) → (last ≡ true → more ≡ []) → (next : Next) → next_of stage s last ≡ Some next → Comes stage next
   unfolding lines
   comes Fresh is last end next some =
-      subst (Comes Fresh) (some_is Heading next some) (ap (λ (l : List ℕ). heading ++ l) (sym (stage_aside (length (s ++ more)) (s ++ more) h Running)))
+      subst (Comes Fresh) (same_Some Heading next some) (ap (λ (l : List ℕ). heading ++ l) (sym (stage_aside (length (s ++ more)) (s ++ more) h Running)))
   comes Running is last end next some = running is (read_record s) last refl end next some
   comes Over is last end next some = absurd (none-some next some)
 
@@ -86,7 +86,7 @@ module _ (part : List ℕ) (last : Bool) (room : ℕ) (h : Held) where
   call_prints more ends =
       ran_is part last room (λ q. to_come h (part ++ more) ≡ q.text ++ to_come q.held (drop q.used part ++ more)) step (begun h) (omega arith) refl
     where
-      step : (q : Progress) (next : Next) → q.used ≤ length part → next_in part last room q ≡ Some next → to_come h (part ++ more) ≡ q.text ++ to_come q.held (drop q.used part ++ more)
+      step : (q : Progress) (next : Next) → q.used ≤ length part → next_step part last room q ≡ Some next → to_come h (part ++ more) ≡ q.text ++ to_come q.held (drop q.used part ++ more)
           → to_come h (part ++ more) ≡ (further part last room next q).text ++ to_come (further part last room next q).held (drop (further part last room next q).used part ++ more)
       step q next u e so =
           let s = drop q.used part in

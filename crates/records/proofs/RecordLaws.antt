@@ -1,5 +1,5 @@
 -- Laws of records: how long a right one is, which numbers stand for its kind and its end, that a whole one is all there, and that what comes behind a record changes nothing of it.
-use Rattle.std.proofs.Common.{◌≡◌, ℕ, ◌+◌, ◌<◌, ◌≤◌, Bool, true, false, cond, not, ◌&&◌, ◌||◌, eqb, ltb, leb, List, Result, Ok, Err, ◌++◌, length, get_or, take, drop, sym, refl, ap, ◌∙◌, arith, length-append, length-drop, ltb-false, ltb-true, le-ltb, ne_eqb, eqb-true, leb-true}
+use Rattle.std.proofs.Common.{◌≡◌, ℕ, ◌+◌, ◌<◌, ◌≤◌, Bool, true, false, cond, not, ◌&&◌, ◌||◌, eqb, ltb, leb, List, Result, Ok, Err, ◌++◌, length, get_or, take, drop, sym, refl, ap, ◌∙◌, arith, length-append, length-drop, take-append-drop, length-take-le, ltb-false, ltb-true, le-ltb, ne_eqb, eqb-true, leb-true}
 use mathlib.Core.Bool.{or-false}
 use borrow.Author.Tests.{eqb-false}
 use lib.ListN.{get_or-append}
@@ -205,3 +205,12 @@ module _ (s t : List ℕ) where
       let h : 7 ≤ length s = omega arith in
       let b = more_size h in
       rw (le-ltb (length (s ++ t)) 7 (omega arith), more_head h ∙ f, le-ltb (length (s ++ t)) (7 + body_size (s ++ t)) (omega arith), more_item h f l)) told
+
+-- ---- a head is the first seven bytes
+
+module _ (s : List ℕ) (enough : 7 ≤ length s) where
+  pub first_size : body_size (take 7 s) ≡ body_size s
+  first_size = sym (more_size (take 7 s) (drop 7 s) (omega (arith, length-take-le 7 s enough))) ∙ ap body_size (take-append-drop 7 s)
+
+  pub first_head : is_head (take 7 s) ≡ is_head s
+  first_head = sym (more_head (take 7 s) (drop 7 s) (omega (arith, length-take-le 7 s enough))) ∙ ap is_head (take-append-drop 7 s)

@@ -1,56 +1,50 @@
 -- Laws of text: pieces put one behind the other are one text, digits are spelt from the last to the first, and how long a line can be.
-use Rattle.std.proofs.Common.{◌≡◌, ℕ, zero, suc, ◌+◌, ◌*◌, ◌/◌, ◌%◌, ◌^◌, ◌<◌, ◌≤◌, Bool, true, false, cond, ltb, List, [], ◌∷◌, ◌++◌, length, get_or, take, drop, set, refl, ap, ◌∙◌, append_assoc, add-one, arith, length-append, length-take-le, take-suc, drop_at, le-ltb, lt-ltb, Option, Some, None}
+use Rattle.std.proofs.Common.{◌≡◌, ℕ, zero, suc, ◌+◌, ◌*◌, ◌/◌, ◌%◌, ◌^◌, ◌<◌, ◌≤◌, Bool, true, false, cond, ltb, List, [], ◌∷◌, ◌++◌, length, get_or, take, set, refl, ap, ◌∙◌, add-one, arith, length-append, length-take-le, take-suc, le-ltb, lt-ltb, Option, Some, None}
 use native.Mathlib.Nat.{pow-succ'}
-use lib.Seq.{sets-eq, set_split}
+use lib.Seq.{sets-eq}
+use Rattle.octets.specs.Places.{placed}
 use Rattle.octets.proofs.PlaceLaws.{length_placed, placed_on}
 use Rattle.unit.specs.Fate.{fate_number, fate_status}
 use Rattle.unit.specs.declared.fate.Fate.{Fate}
-use Rattle.records.specs.Between.{Put}
+use Rattle.records.specs.declared.text.Page.{Page}
+use Rattle.records.specs.Between.{HasRoom, Put}
 use Rattle.records.specs.Text.{glyph, decimal_in, decimal, hex, hexes, spaced, ended, status_text, reply_text, record_line}
 
--- ---- text at a place
+-- ---- text on a page
 
 -- where there is room for a text there is room for its start
-pub start_room : (at n : ℕ) (s t : List ℕ) → at + length (s ++ t) ≤ n → at + length s ≤ n
-start_room at n s t h = omega (arith, length-append s t, h)
+pub start_room : (p : Page) (s t : List ℕ) → HasRoom (s ++ t) p → HasRoom s p
+start_room p s t h = omega (arith, length-append s t, h)
 
 -- and, for a record's line, for what its first, its first two and its first three parts make
-pub line_rooms : (at n k : ℕ) (fate : Fate) (s : List ℕ) → at + length (record_line k fate s) ≤ n
-    → (at + length (spaced (decimal k)) ≤ n)
-    × (at + length (spaced (decimal k) ++ spaced (decimal (fate_number fate))) ≤ n)
-    × (at + length (spaced (decimal k) ++ spaced (decimal (fate_number fate)) ++ spaced (status_text (fate_status fate))) ≤ n)
+pub line_rooms : (p : Page) (k : ℕ) (fate : Fate) (s : List ℕ) → HasRoom (record_line k fate s) p
+    → HasRoom (spaced (decimal k)) p
+    × HasRoom (spaced (decimal k) ++ spaced (decimal (fate_number fate))) p
+    × HasRoom (spaced (decimal k) ++ spaced (decimal (fate_number fate)) ++ spaced (status_text (fate_status fate))) p
 unfolding record_line
-line_rooms at n k fate s h =
+line_rooms p k fate s h =
     let one = spaced (decimal k) in
     let two = spaced (decimal (fate_number fate)) in
     let three = spaced (status_text (fate_status fate)) in
-    let third = start_room at n (one ++ two ++ three) (ended (reply_text s)) h in
-    let second = start_room at n (one ++ two) three third in
-    (start_room at n one two second, second, third)
+    let third = start_room p (one ++ two ++ three) (ended (reply_text s)) h in
+    let second = start_room p (one ++ two) three third in
+    (start_room p one two second, second, third)
 
-module _ {s : List ℕ} {at : ℕ} {d d' : List ℕ} {r : ℕ} (put : Put s at d d' r) where
-  pub put_length : at + length s ≤ length d → length d' ≡ length d
-  put_length h = rw put.bytes (length_placed at s d h)
+module _ {s : List ℕ} {p p' : Page} (put : Put s p p') where
+  pub put_length : HasRoom s p → length p'.out.now ≡ length p.out.now
+  put_length h = rw put.bytes (length_placed p.at s p.out.now h)
 
   -- there is room for what is to come behind it
-  pub put_room : (t : List ℕ) → at + length (s ++ t) ≤ length d → r + length t ≤ length d'
+  pub put_room : (t : List ℕ) → HasRoom (s ++ t) p → HasRoom t p'
   put_room t h = omega (arith, length-append s t, put.next, put_length (omega (arith, length-append s t, h)))
 
   -- text behind text is one text
-  pub put_then : {t d'' : List ℕ} {n : ℕ} → at + length (s ++ t) ≤ length d → Put t r d' d'' n → Put (s ++ t) at d d'' n
+  pub put_then : {t : List ℕ} {p'' : Page} → HasRoom (s ++ t) p → Put t p' p'' → Put (s ++ t) p p''
   put_then {t} h more = record {
-    bytes = rw (more.bytes, put.bytes, put.next) (placed_on at s t d (omega (arith, length-append s t)));
+    same_reference = more.same_reference ∙ put.same_reference;
+    bytes = rw (more.bytes, put.bytes, put.next) (placed_on p.at s t p.out.now (omega (arith, length-append s t)));
     next = omega (arith, length-append s t, put.next, more.next);
   }
-
-  -- two bytes more, stored one by one
-  pub put_two : (a b : ℕ) → r + 2 ≤ length d → Put (s ++ (a ∷ b ∷ [])) at d (set (set d' r a) (r + 1) b) (r + 2)
-  put_two a b h =
-      put_then {t = a ∷ b ∷ []} (omega (arith, length-append s (a ∷ b ∷ []), put.next))
-      (record {
-        bytes = rw add-one (sets-eq (a ∷ b ∷ []) d' r (omega (arith, put_length (omega (arith, put.next)))));
-        next = refl;
-      })
 
 -- ---- bytes in hexadecimal
 
@@ -62,28 +56,46 @@ hexes_append : (s t : List ℕ) → hexes (s ++ t) ≡ hexes s ++ hexes t
 hexes_append [] t = refl
 hexes_append (b ∷ bs) t = ap (λ (l : List ℕ). glyph (b / 16) ∷ glyph (b % 16) ∷ l) (hexes_append bs t)
 
-pub hexes_next : (s : List ℕ) (i : ℕ) → i < length s → hexes (take (suc i) s) ≡ hexes (take i s) ++ hex (get_or s i 0)
+hexes_next : (s : List ℕ) (i : ℕ) → i < length s → hexes (take (suc i) s) ≡ hexes (take i s) ++ hex (get_or s i 0)
 hexes_next s i h = ap hexes (take-suc s i 0 h) ∙ hexes_append (take i s) (get_or s i 0 ∷ [])
 
--- ---- a number, from its last digit to its first
+-- a byte behind the first i of them
+pub hex_step : (s d : List ℕ) (at i : ℕ) → i < length s → at + 2 * length s ≤ length d
+    → set (set (placed at (hexes (take i s)) d) (at + 2 * i) (glyph (get_or s i 0 / 16))) (at + 2 * i + 1) (glyph (get_or s i 0 % 16))
+    ≡ placed at (hexes (take (i + 1) s)) d
+hex_step s d at i there room =
+    let before = hexes (take i s) in
+    let n = length_hexes (take i s) in
+    let k = length-take-le i s (omega arith) in
+    let e : at + length before ≡ at + 2 * i = omega (arith, n, k) in
+    let fits : at + length before ≤ length d = omega (arith, n, k, room) in
+    let next : hexes (take (i + 1) s) ≡ before ++ hex (get_or s i 0) = rw add-one (hexes_next s i there) in
+    rw (next, ← e, add-one)
+    (sets-eq (hex (get_or s i 0)) (placed at before d) (at + length before) (rw (length_placed at before d fits) (omega (arith, n, k, room)))
+    ∙ placed_on at before (hex (get_or s i 0)) d (omega (arith, n, k, room, length-append before (hex (get_or s i 0)))))
 
-drop_set : (l : List ℕ) (i a : ℕ) → i < length l → drop i (set l i a) ≡ a ∷ drop (suc i) l
-drop_set l i a h = ap (drop i) (set_split l i a h) ∙ drop_at (take i l) (a ∷ drop (suc i) l) i (length-take-le i l (omega arith))
+-- ---- a number
 
-module _ (from below rest : ℕ) (text : List ℕ) (is : from ≡ suc below) (there : below < length text) where
-  pub spelt_step : 9 < rest → decimal_in from rest ++ drop from text ≡ decimal_in below (rest / 10) ++ drop below (set text below (glyph (rest % 10)))
-  spelt_step h =
-      rw (is, le-ltb rest 10 h, drop_set text below (glyph (rest % 10)) there)
-      (append_assoc (decimal_in below (rest / 10)) (glyph (rest % 10) ∷ []) (drop (suc below) text))
+-- a place more for its digits makes no difference, once there are enough
+decimal_spare : (most n : ℕ) → n < 10 ^ suc most → decimal_in (suc (suc most)) n ≡ decimal_in (suc most) n
+decimal_spare zero n h = rw (lt-ltb n 10 (omega arith))
+decimal_spare (suc most) n h = go (ltb n 10) (decimal_spare most (n / 10) (let e = pow-succ' 10 (suc most) in omega (arith, e, h)))
+  where
+    go : (t : Bool) → decimal_in (suc (suc most)) (n / 10) ≡ decimal_in (suc most) (n / 10)
+        → cond t (glyph n ∷ []) (decimal_in (suc (suc most)) (n / 10) ++ (glyph (n % 10) ∷ []))
+        ≡ cond t (glyph n ∷ []) (decimal_in (suc most) (n / 10) ++ (glyph (n % 10) ∷ []))
+    go true e = refl
+    go false e = ap (λ (l : List ℕ). l ++ (glyph (n % 10) ∷ [])) e
 
-  pub spelt_last : rest ≤ 9 → decimal_in from rest ++ drop from text ≡ drop below (set text below (glyph rest))
-  spelt_last h = rw (is, drop_set text below (glyph rest) there, lt-ltb rest 10 (omega arith))
+-- one digit, or its last one behind the others
+pub decimal_one : (n : ℕ) → n < 10 → decimal n ≡ glyph n ∷ []
+unfolding decimal
+decimal_one n h = rw (lt-ltb n 10 h)
 
--- a number that is not the last digit has two places more, and what it leaves fits into one less
-pub digits_left : (from rest : ℕ) → 9 < rest → rest < 10 ^ from → (k : ℕ) × (from ≡ suc (suc k)) × (rest / 10 < 10 ^ suc k)
-digits_left zero rest h l = absurd (omega arith)
-digits_left (suc zero) rest h l = absurd (omega arith)
-digits_left (suc (suc k)) rest h l = (k, refl, let e = pow-succ' 10 (suc k) in omega (arith, e, l))
+pub decimal_more : (n : ℕ) → 10 ≤ n → n < 2 ^ 64 → decimal n ≡ decimal (n / 10) ++ (glyph (n % 10) ∷ [])
+unfolding decimal
+decimal_more n h l =
+    rw (le-ltb n 10 h, decimal_spare 18 (n / 10) (omega (arith, l)))
 
 -- ---- a reply's text
 

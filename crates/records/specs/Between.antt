@@ -2,22 +2,42 @@
 use Rattle.std.specs.Prelude.{◌≡◌, ℕ, ◌+◌, ◌≤◌, List, length}
 use Rattle.octets.specs.Places.{placed}
 use Rattle.records.specs.Record.{size_of}
-use Rattle.records.specs.Log.{Held}
-use Rattle.records.specs.Run.{left_by, used_by, text_of}
-use Rattle.records.specs.declared.bench.Bench.{Bench}
+use Rattle.records.specs.Log.{Held as TheHeld}
+use Rattle.records.specs.Run.{left_by, used_by, text_of, longest_line}
+use Rattle.records.specs.declared.text.Page.{Page}
+use Rattle.records.specs.declared.log.Held.{Held}
 use Rattle.records.specs.declared.log.Next.{Next}
 use Rattle.records.specs.declared.log.Next.TheVariants.{Heading, Line, Last}
 
--- Text was put at the place `at` of a buffer d, which is d' now; r is the place behind it.
-pub record Put (text : List ℕ) (at : ℕ) (d d' : List ℕ) (r : ℕ) : Type 0 where
-  pub bytes : d' ≡ placed at text d
-  pub next : r ≡ at + length text
+-- A page has room for a text.
+abbrev pub HasRoom : List ℕ → Page → Type 0
+HasRoom text p = p.at + length text ≤ length p.out.now
 
--- A step was done at the place `at` of a buffer d: bench, memory and reply buffer are what it leaves, and its text stands in the buffer.
-pub record Says (next : Next) (s : List ℕ) (h : Held) (at : ℕ) (d : List ℕ) (b : Bench) (m r d' : List ℕ) (used behind : ℕ) : Type 0 where
-  pub leaves : record { bench = b; memory = m; reply = r } ≡ left_by next s h
+-- A text was put on a page p, which is p' now: it stands behind what was there, in the same buffer.
+pub record Put (text : List ℕ) (p p' : Page) : Type 0 where
+  pub same_reference : p'.out.ghost_name ≡ p.out.ghost_name
+  pub bytes : p'.out.now ≡ placed p.at text p.out.now
+  pub next : p'.at ≡ p.at + length text
+
+-- What is held, as `left_by` and the like speak of it.
+abbrev pub held_in : Held → TheHeld
+held_in h = record { bench = h.bench; memory = h.memory.now; reply = h.reply.now }
+
+-- The same memory and reply buffer are lent.
+pub record SameLent (h h' : Held) : Type 0 where
+  pub memory : h'.memory.ghost_name ≡ h.memory.ghost_name
+  pub reply : h'.reply.ghost_name ≡ h.reply.ghost_name
+
+-- A page has room for the longest line.
+abbrev pub HasLine : Held → Page → Type 0
+HasLine h p = p.at + longest_line (length h.reply.now) ≤ length p.out.now
+
+-- A step was done where h was held, which is h' now, and its text was put on the page.
+pub record Says (next : Next) (s : List ℕ) (h h' : Held) (p p' : Page) (used : ℕ) : Type 0 where
+  pub lent : SameLent h h'
+  pub leaves : held_in h' ≡ left_by next s (held_in h)
   pub uses : used ≡ used_by next
-  pub prints : Put (text_of next s h) at d d' behind
+  pub prints : Put (text_of next s (held_in h)) p p'
 
 -- What a step asks: that the record is all there.
 abbrev pub Fits : Next → List ℕ → Type 0

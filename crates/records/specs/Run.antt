@@ -79,15 +79,17 @@ stepped next s p = record {
 abbrev pub longest_line : ℕ → ℕ
 longest_line r = 67 + 2 * r
 
--- What is next where a call has got to, if there is room for any line; and the call goes on while something is next.
-abbrev pub next_in : List ℕ → Bool → ℕ → Progress → Option Next
-next_in log last room p =
-    cond (nat_le (length p.text + longest_line (length p.held.reply)) room) (next_of p.held.bench.stage (drop p.used log) last) None
+-- What is next where a call has got to; and the step that it takes: that one, if there is room for any line. It goes on while there is a step.
+abbrev pub next_in : List ℕ → Bool → Progress → Option Next
+next_in log last p = next_of p.held.bench.stage (drop p.used log) last
+
+abbrev pub next_step : List ℕ → Bool → ℕ → Progress → Option Next
+next_step log last room p = cond (nat_le (length p.text + longest_line (length p.held.reply)) room) (next_in log last p) None
 
 abbrev pub ran_in : ℕ → List ℕ → Bool → ℕ → Progress → Progress
 ran_in zero log last room p = p
 ran_in (suc most) log last room p =
-    option_map_or (λ next. ran_in most log last room (stepped next (drop p.used log) p)) (next_in log last room p) p
+    option_map_or (λ next. ran_in most log last room (stepped next (drop p.used log) p)) (next_step log last room p) p
 
 -- The heading and the last line are a step each, and there are no more records than bytes.
 abbrev pub steps : Stage → ℕ

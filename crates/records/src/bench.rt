@@ -1,7 +1,7 @@
 // The bench: document 01's unit, and how far a log has got (document 01, 'Bench program').
 ghost use Rattle.std.specs.Prelude.{◌≡◌};
 ghost use Rattle.records.specs.Log.{bench_unit as Log·bench_unit, start_bench};
-ghost use Rattle.records.specs.Run.{is_over, at_stage as Run·at_stage};
+ghost use Rattle.records.specs.Run.{is_over};
 
 use packets::Path;
 use unit::{Clock, Fields, Owner, Unit, Window, Windows};
@@ -71,11 +71,4 @@ fn bench_unit() -> Unit
         clock: Clock::default(),
         counters: [0u32; 11],
     }
-}
-
-// The bench at another stage.
-pub(crate) fn at_stage(stage: Stage, bench: Bench) -> Bench
-    ensures { result ≡ Run·at_stage stage bench }
-{
-    Bench { stage, ..bench }
 }

@@ -37,32 +37,33 @@ pub enum NoRecord {
 pub fn read_record(log: &[u8]) -> Result<Item, NoRecord>
     ensures { result ≡ Record·read_record log.now }
 {
-    if log.len() < 7 {
+    let Some(head) = log.first_chunk::<7>() else {
         return Err(NoRecord::Cut);
-    }
-    let size = body_size(log);
-    if !is_head(log, size) {
+    };
+    if !is_head(head) {
         return Err(NoRecord::Wrong);
     }
+    let size = body_size(head);
     if log.len() - 7 < size as usize {
         return Err(NoRecord::Cut);
     }
     Ok(item_of(log, size))
 }
 
-fn body_size(log: &[u8]) -> u16
-    requires { 7 ≤ length log.now }
-    ensures { result ≡ Record·body_size log.now }
+fn body_size(head: &[u8; 7]) -> u16
+    ensures { result ≡ Record·body_size head.now }
 {
-    octets::number2(log[5], log[6])
+    octets::number2(head[5], head[6])
 }
 
 // Whether the mark is there, and kind, link, end and length go together.
-fn is_head(log: &[u8], size: u16) -> bool
-    requires { (7 ≤ length log.now) × (size ≡ Record·body_size log.now) }
-    ensures { result ≡ Record·is_head log.now }
+fn is_head(head: &[u8; 7]) -> bool
+    ensures { result ≡ Record·is_head head.now }
 {
-    log[0] == 0x5A && log[1] == 0x57 && is_right(log[2], log[3], log[4], size)
+    let [0x5A, 0x57, kind, link, end, ..] = *head else {
+        return false;
+    };
+    is_right(kind, link, end, body_size(head))
 }
 
 fn is_right(kind: u8, link: u8, end: u8, size: u16) -> bool
@@ -89,8 +90,8 @@ fn item_of(log: &[u8], size: u16) -> Item
 fn end_of(byte: u8) -> End
     ensures { result ≡ end_of byte }
 {
-    if byte == 0 {
-        return End::Eop;
+    match byte {
+        0 => End::Eop,
+        _ => End::Eep,
     }
-    End::Eep
 }

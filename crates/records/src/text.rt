@@ -1,119 +1,127 @@
-// Lines of text (document 01, 'Bench program'). Each function puts its text at a place of a buffer that has room for it, and answers
-// the place behind it.
-ghost use Rattle.std.specs.Prelude.{◌≡◌, ◌+◌, ◌-◌, ◌<◌, ◌≤◌, [], ◌∷◌, ◌++◌, length};
-ghost use Rattle.octets.specs.Places.{part};
-ghost use Rattle.records.specs.Between.{Put};
+// Lines of text (document 01, 'Bench program'), put on a page that has room for them.
+ghost use Rattle.std.specs.Prelude.{◌≡◌, ◌+◌, ◌-◌, ◌*◌, ◌<◌, ◌≤◌, [], ◌∷◌, ◌++◌, length};
+ghost use Rattle.octets.specs.Places.{placed};
+ghost use Rattle.records.specs.Between.{HasRoom, Put};
 ghost use Rattle.records.specs.Text.{decimal, hexes, spaced, ended, status_text, reply_text, record_line};
 ghost use Rattle.records.specs.Text.{glyph as Text·glyph};
 
 use unit::Fate;
 
-// Text as it is.
-pub(crate) fn put(out: &mut [u8], at: usize, text: &[u8]) -> usize
-    requires { at + length text.now ≤ length out.old }
-    ensures { Put text.now at out.old out.new result }
-{
-    octets::copy_part(text, 0, text.len(), out, at);
-    at + text.len()
+// A buffer that text is put into, and the place behind what has been put.
+#[derive(Drop)]
+pub(crate) struct Page<'a> {
+    pub(crate) out: &'a mut [u8],
+    pub(crate) at: usize,
 }
 
-// A number in decimal with one byte behind it, as it is spelt: what stands from `from` on.
-#[derive(Clone, Copy)]
-struct Spelt {
-    text: [u8; 21],
-    from: usize,
-}
-
-fn spell(n: u64, behind: u8) -> Spelt
-    ensures { (part result.from (21 - result.from) result.text ≡ decimal n ++ (behind ∷ [])) × (result.from ≤ 21) × (length result.text ≡ 21) }
-{
-    let mut text = [behind; 21];
-    let mut from = 20;
-    let mut rest = n;
-    while 9 < rest {
-        from -= 1;
-        text[from] = glyph((rest % 10) as u8);
-        rest /= 10;
+impl Page<'_> {
+    // How much room there is.
+    pub(crate) fn room(&self) -> usize
+        requires { self.now.at ≤ length self.now.out.now }
+        ensures { result ≡ length self.now.out.now - self.now.at }
+    {
+        self.out.len() - self.at
     }
-    from -= 1;
-    text[from] = glyph(rest as u8);
-    Spelt { text, from }
-}
 
-pub(crate) fn put_number(out: &mut [u8], at: usize, n: u64, behind: u8) -> usize
-    requires { at + length (decimal n ++ (behind ∷ [])) ≤ length out.old }
-    ensures { Put (decimal n ++ (behind ∷ [])) at out.old out.new result }
-{
-    let spelt = spell(n, behind);
-    let text = spelt.text;
-    let from = spelt.from;
-    put(out, at, &text[from..])
-}
-
-// A word, a number, and the end of the line.
-pub(crate) fn put_word(out: &mut [u8], at: usize, word: &[u8], n: u64) -> usize
-    requires { at + length (word.now ++ ended (decimal n)) ≤ length out.old }
-    ensures { Put (word.now ++ ended (decimal n)) at out.old out.new result }
-{
-    let behind = put(out, at, word);
-    put_number(out, behind, n, b'\n')
-}
-
-// Bytes in hexadecimal.
-fn put_hex(out: &mut [u8], at: usize, bytes: &[u8]) -> usize
-    requires { at + length (hexes bytes.now) ≤ length out.old }
-    ensures { Put (hexes bytes.now) at out.old out.new result }
-{
-    let mut to = at;
-    let mut i = 0;
-    while i < bytes.len() {
-        out[to] = glyph(bytes[i] / 16);
-        out[to + 1] = glyph(bytes[i] % 16);
-        to += 2;
-        i += 1;
+    // Text as it is.
+    pub(crate) fn put(&mut self, text: &[u8])
+        requires { HasRoom text.now self.old }
+        ensures { Put text.now self.old self.new }
+    {
+        octets::copy_part(text, 0, text.len(), self.out, self.at);
+        self.at += text.len();
     }
-    to
+
+    // A number in decimal, and one byte behind it.
+    pub(crate) fn put_number(&mut self, n: u64, behind: u8)
+        requires { HasRoom (decimal n ++ (behind ∷ [])) self.old }
+        ensures { Put (decimal n ++ (behind ∷ [])) self.old self.new }
+    {
+        self.put_decimal(n);
+        self.put(&[behind]);
+    }
+
+    // Kept: digits by hand, since `write!` promises its text only where it answers Ok, and `run` has no refusal.
+    fn put_decimal(&mut self, n: u64)
+        requires { HasRoom (decimal n) self.old }
+        ensures { Put (decimal n) self.old self.new }
+    {
+        if n < 10 {
+            return self.put(&[glyph(n as u8)]);
+        }
+        self.put_decimal(n / 10);
+        self.put(&[glyph((n % 10) as u8)]);
+    }
+
+    // A word, a number, and the end of the line.
+    pub(crate) fn put_word(&mut self, word: &[u8], n: u64)
+        requires { HasRoom (word.now ++ ended (decimal n)) self.old }
+        ensures { Put (word.now ++ ended (decimal n)) self.old self.new }
+    {
+        self.put(word);
+        self.put_number(n, b'\n');
+    }
+
+    // Bytes in hexadecimal.
+    fn put_hex(&mut self, bytes: &[u8])
+        requires { HasRoom (hexes bytes.now) self.old }
+        ensures { Put (hexes bytes.now) self.old self.new }
+    {
+        write_hex(bytes, self.out, self.at);
+        self.at += 2 * bytes.len();
+    }
+
+    fn put_status(&mut self, told: Option<u8>)
+        requires { HasRoom (spaced (status_text told)) self.old }
+        ensures { Put (spaced (status_text told)) self.old self.new }
+    {
+        match told {
+            None => self.put(b"- "),
+            Some(b) => self.put(&[glyph(b / 16), glyph(b % 16), b' ']),
+        }
+    }
+
+    fn put_reply(&mut self, reply: &[u8])
+        requires { HasRoom (ended (reply_text reply.now)) self.old }
+        ensures { Put (ended (reply_text reply.now)) self.old self.new }
+    {
+        if reply.is_empty() {
+            return self.put_number(0, b'\n');
+        }
+        self.put_number(reply.len() as u64, b' ');
+        self.put_hex(reply);
+        self.put(b"\n");
+    }
+
+    // The line of record n: its fate, its status and its reply.
+    pub(crate) fn put_line(&mut self, n: u64, fate: Fate, reply: &[u8])
+        requires { HasRoom (record_line n fate reply.now) self.old }
+        ensures { Put (record_line n fate reply.now) self.old self.new }
+    {
+        self.put_number(n, b' ');
+        self.put_number(fate.number() as u64, b' ');
+        self.put_status(fate.status());
+        self.put_reply(reply);
+    }
+}
+
+// Two digits for each byte, from a place of a buffer on.
+fn write_hex(bytes: &[u8], out: &mut [u8], at: usize)
+    requires { at + 2 * length bytes.now ≤ length out.old }
+    ensures { out.new ≡ placed at (hexes bytes.now) out.old }
+{
+    for (i, &b) in bytes.iter().enumerate() {
+        out[at + 2 * i] = glyph(b / 16);
+        out[at + 2 * i + 1] = glyph(b % 16);
+    }
 }
 
 fn glyph(digit: u8) -> u8
     requires { digit < 16 }
     ensures { result ≡ Text·glyph digit }
 {
-    if digit < 10 {
-        return b'0' + digit;
+    match digit {
+        0..=9 => b'0' + digit,
+        _ => b'a' - 10 + digit,
     }
-    b'a' - 10 + digit
-}
-
-fn put_status(out: &mut [u8], at: usize, told: Option<u8>) -> usize
-    requires { at + length (spaced (status_text told)) ≤ length out.old }
-    ensures { Put (spaced (status_text told)) at out.old out.new result }
-{
-    match told {
-        None => put(out, at, &[b'-', b' ']),
-        Some(b) => put(out, at, &[glyph(b / 16), glyph(b % 16), b' ']),
-    }
-}
-
-fn put_reply(out: &mut [u8], at: usize, reply: &[u8]) -> usize
-    requires { at + length (ended (reply_text reply.now)) ≤ length out.old }
-    ensures { Put (ended (reply_text reply.now)) at out.old out.new result }
-{
-    if reply.len() == 0 {
-        return put_number(out, at, 0, b'\n');
-    }
-    let shown = put_number(out, at, reply.len() as u64, b' ');
-    let behind = put_hex(out, shown, reply);
-    put(out, behind, &[b'\n'])
-}
-
-// The line of record n: its fate, its status and its reply.
-pub(crate) fn put_line(out: &mut [u8], at: usize, n: u64, fate: Fate, reply: &[u8]) -> usize
-    requires { at + length (record_line n fate reply.now) ≤ length out.old }
-    ensures { Put (record_line n fate reply.now) at out.old out.new result }
-{
-    let numbered = put_number(out, at, n, b' ');
-    let fated = put_number(out, numbered, fate.number() as u64, b' ');
-    let told = put_status(out, fated, fate.status());
-    put_reply(out, told, reply)
 }
