@@ -209,19 +209,13 @@ module _ (s : List ℕ) (at width : ℕ) (small : width ≤ 8) where
       ∙ worth_padded 256 8 (part at width s) (omega arith)))
 
 module _ (d : List ℕ) (at width n : ℕ) (small : width ≤ 8) (fits : ltb n (256 ^ width) ≡ true) where
-  copy_out_fits : copy_fits (bytes_of 8 n) (8 - width) width d at ≡ number_fits d at width n
-  copy_out_fits = rw (le-leb width 8 small, fits, le-leb (8 - width + width) 8 (omega arith))
-
   copy_out : copied (bytes_of 8 n) (8 - width) width d at ≡ written d at width n
   unfolding copied written
   copy_out =
       rw (le-leb width 8 small, fits, le-leb (8 - width + width) 8 (omega arith))
       (ap (λ (p : List ℕ). cond (within at width d) (placed at p d) d) (part_digits 256 8 width n small))
 
-  -- `did` is what the copy answered, `b` its source and `e` what it left
-  pub write_fits : {did : Bool} {b : List ℕ} → b ≡ bytes_of 8 n → did ≡ copy_fits b (8 - width) width d at → did ≡ number_fits d at width n
-  write_fits p q = q ∙ rw p copy_out_fits
-
+  -- `b` is the copy's source and `e` what it left
   pub write_copied : {e b : List ℕ} → b ≡ bytes_of 8 n → e ≡ copied b (8 - width) width d at → e ≡ written d at width n
   write_copied p q = q ∙ rw p copy_out
 

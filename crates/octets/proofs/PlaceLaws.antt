@@ -6,16 +6,15 @@ use mathlib.Core.List.{List, [], ◌∷◌, ◌++◌, append_assoc, append-nil}
 use Prim.Native.Nat.{ℕ, zero, suc, ◌+◌, ◌-◌, ◌*◌, ◌/◌, ◌<◌, ◌≤◌, min}
 use native.Mathlib.Omega.{arith}
 use native.Mathlib.Decide.{dec_le}
-use native.Mathlib.Nat.{lt_of_not-le, add_assoc, add-zero, zero-add, zero-mul}
-use native.Mathlib.Numerals.{add-one}
+use native.Mathlib.Nat.{lt_of_not-le, add_assoc, add-zero, zero-mul}
 use borrow.Author.Tests.{leb-true, le-leb, lt-leb}
 use lib.Dec.{leb}
-use lib.ListN.{length, get_or, set, take, drop, replicate, length-replicate, length-append, length-take, length-drop, take-append-drop, drop_of_length-le, get_or-append}
+use lib.ListN.{length, get_or, take, drop, replicate, length-replicate, length-append, length-take, length-drop, take-append-drop, drop_of_length-le, get_or-append}
 use borrow.Rule.Slice.PartMut.{put_mid}
 use Rattle.std.proofs.lemmas.Slice.{put_mid-paste}
 use Rattle.std.specs.List.{copy_within}
 use Rattle.std.specs.Simd.{first_chunks}
-use lib.Seq.{ext_get_or, paste, paste-suc, drop-set-lt, take_all, take-add, take-append_seam, take-append-le, take-append-add, drop-append_seam, drop-append-le, drop-append-add, length-take-le, take-length, take_at, drop_at, drop-drop, get_or-take, get_or-drop, get_or-append-add}
+use lib.Seq.{ext_get_or, paste, take_all, take-add, take-append_seam, take-append-le, take-append-add, drop-append_seam, drop-append-le, drop-append-add, length-take-le, take-length, take_at, drop_at, drop-drop, get_or-take, get_or-drop, get_or-append-add}
 use Rattle.octets.proofs.Tabulate.{tabulate, length_tabulate}
 use Rattle.octets.proofs.Tabulate.{at as at_place}
 use Rattle.octets.specs.Places.{within, part, placed, copy_fits, copied, filled}
@@ -29,10 +28,6 @@ same_test a b c d holds fails = go (dec_le a b)
     go : Dec (a ≤ b) → leb a b ≡ leb c d
     go (yes k) = le-leb a b k ∙ sym (le-leb c d (holds k))
     go (no k) = let l : b < a = lt_of_not-le k in lt-leb a b l ∙ sym (lt-leb c d (fails l))
-
--- the rest from `at` on is long enough exactly if all the places are there
-pub within_rest : (at count n : ℕ) → at ≤ n → leb count (n - at) ≡ leb (at + count) n
-within_rest at count n h = same_test count (n - at) (at + count) n (λ k. omega (arith, k, h)) (λ l. omega (arith, l, h))
 
 -- ---- a part
 
@@ -218,25 +213,6 @@ placed_hides to at p q d before behind fits =
     ∙ placed_after at q d room (to + length p + i) (omega arith)
     ∙ sym (get_or-drop (to + length p) d i 0)) in
     ap₂ (λ (x y : List ℕ). x ++ p ++ y) front back
-
--- a move to the start, byte by byte: what is read next has not been put over
-module _ (s d : List ℕ) (from count i : ℕ) (there : from + count ≤ length d) (more : i < count) (rest : drop i s ≡ drop i d) where
-  move_read : get_or s (from + i) 0 ≡ get_or d (from + i) 0
-  move_read =
-      ap (λ (k : ℕ). get_or s k 0) (omega arith) ∙ sym (get_or-drop i s from 0) ∙ ap (λ (l : List ℕ). get_or l from 0) rest ∙ get_or-drop i d from 0
-      ∙ ap (λ (k : ℕ). get_or d k 0) (omega arith)
-
-  pub move_next : s ≡ paste d 0 (part from count d) i → set s i (get_or s (from + i) 0) ≡ paste d 0 (part from count d) (suc i)
-  move_next e =
-      let long : length (part from count d) ≡ count = length_part from count d there in
-      ap (λ (b : ℕ). set s i b) (move_read ∙ sym (part_at from count d i more)) ∙ ap (λ (l : List ℕ). set l i (get_or (part from count d) i 0)) e
-      ∙ ap (λ (k : ℕ). set (paste d 0 (part from count d) i) k (get_or (part from count d) i 0)) (sym (zero-add i))
-      ∙ paste-suc d 0 (part from count d) i 0 (omega (arith, zero-add i)) (omega (arith, long))
-
-  pub move_rest : (b : ℕ) → drop (suc i) (set s i b) ≡ drop (suc i) d
-  move_rest b =
-      drop-set-lt (suc i) s i b (omega arith) ∙ ap (λ (k : ℕ). drop k s) (sym (add-one i)) ∙ sym (drop-drop 1 i s) ∙ ap (drop 1) rest ∙ drop-drop 1 i d
-      ∙ ap (λ (k : ℕ). drop k d) (add-one i)
 
 -- ---- copies and fills, whether they fit or not
 

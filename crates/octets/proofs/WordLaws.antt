@@ -7,15 +7,15 @@ use native.Mathlib.Nat.{zero-mul, zero-add, add-zero, suc-add, mul_assoc, mul_co
 use lib.Arith.{digits_div, digits_mod}
 use lib.Bits.{bit_xor, xor_mod, xor_block, xor_comm, xor_zero_r, xor_lt, xor_shifted}
 use lib.Pow.{pow_pos, pow_mono, shl-shr, mod-pow-add}
-use lib.ListN.{length, get_or, take, drop}
+use lib.ListN.{length, take, drop}
 use lib.Seq.{take-take}
 use Rattle.octets.specs.Crc.{crc, crc_from, message, remainder, mirrored, modulo, bits}
-use Rattle.octets.specs.Numbers.{Digits, number}
+use Rattle.octets.specs.Numbers.{Digits}
 use Rattle.octets.specs.Places.{part}
 use Rattle.octets.specs.Words.{turn, turns, crc_of_two, word_of}
 use Rattle.octets.proofs.CrcLaws.{crc_byte, crc_from_append}
 use Rattle.octets.proofs.NumberLaws.{digits_part}
-use Rattle.octets.proofs.PlaceLaws.{length_part, part_bytes, part_rest}
+use Rattle.octets.proofs.PlaceLaws.{length_part, part_rest}
 use Rattle.octets.proofs.Tabulate.{same}
 use Rattle.octets.proofs.Xor.{low, bit_times, xor_cross, xor_assoc}
 use Rattle.octets.proofs.Linear.{Linear, itself, sum, after, shifted_down, shifted_up, lowest, at_zero, basis}
@@ -66,11 +66,6 @@ byte_more c w x hc hx =
     simp zero-add at (xor_block 8 0 w c x hc hx) ∙ sym (xor_shifted w 8 (bit_xor c x) (xor_lt 8 c x hc hx)) in
     rw (apart, (turns_linear 8).through (w * 256) (bit_xor c x), turns_up 8 w, crc_turns (bit_xor c x) (xor_lt 8 c x hc hx))
     (xor_comm w (crc (bit_xor c x ∷ [])))
-
--- eight bytes of a row as one number: that of the same bytes the other way round
-pub word_part : (s : List ℕ) (at : ℕ) → at + 8 ≤ length s
-    → number (get_or s (at + 7) 0 ∷ get_or s (at + 6) 0 ∷ get_or s (at + 5) 0 ∷ get_or s (at + 4) 0 ∷ get_or s (at + 3) 0 ∷ get_or s (at + 2) 0 ∷ get_or s (at + 1) 0 ∷ get_or s at 0 ∷ []) ≡ word_of (part at 8 s)
-word_part s at h = rw (part_bytes at 7 s h) (omega arith)
 
 -- as many turns as a word has bits are the CRC of its bytes
 pub crc_word : (c : ℕ) (xs : List ℕ) → c < 256 → Digits 256 xs → crc_from c xs ≡ turns (length xs * 8) (bit_xor c (word_of xs))

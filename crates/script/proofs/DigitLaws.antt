@@ -119,9 +119,6 @@ module _ (d l : List ℕ) (n : ℕ) where
   pub put_all : n ≤ length d → n ≤ length l → drop n l ≡ [] → n ≡ length (take (length d) l)
   put_all h k e = rw length-take (omega (arith, length-drop n l, ap length e))
 
-  pub put_full : n ≤ length d → length d ≤ n → n ≤ length l → n ≡ length (take (length d) l)
-  put_full h k m = rw length-take (omega arith)
-
   pub put_placed : n ≡ length (take (length d) l) → paste d 0 l n ≡ placed 0 (take (length d) l) d
   put_placed e =
       rw e (ap (λ (p : List ℕ). take 0 d ++ p ++ drop (0 + length (take (length d) l)) d)
