@@ -1,6 +1,6 @@
 // Packets that are read, and replies that are written.
 use crate::show;
-use packets::{Command, Header, Packet, Path};
+use packets::{Data, Header, Packet, Path, Reply};
 
 // The time number of the unit that would read them.
 const NUMBER: u8 = 0xf0;
@@ -98,49 +98,27 @@ pub(crate) fn same(name: &[u8], first: &[u8], second: &[u8]) {
 
 // The reply to a command, written into a buffer of `room` bytes (at most 400), each of them ee before.
 pub(crate) fn reply(name: &[u8], packet: &[u8], status: u8, room: usize, bytes: &[u8]) {
-    let mut out = [0xeeu8; 400];
-    match packets::read_packet(packet, NUMBER) {
-        Ok(Packet::Command(c)) => reply_into(name, c, status, bytes, &mut out[0..room % 401]),
-        Ok(Packet::Time) | Err(_) => show::text(b"no command\n"),
-    }
-}
-
-fn reply_into(name: &[u8], c: Command, status: u8, bytes: &[u8], out: &mut [u8]) {
-    let did = packets::write_reply(c.path, c.header, status, bytes, out);
-    show::outcome(name, did, out);
+    written(name, packet, status, room, Data::Bytes(bytes));
 }
 
 // The same, where the data are one byte, `count` times over.
 pub(crate) fn repeated(name: &[u8], packet: &[u8], status: u8, room: usize, byte: u8, count: u32) {
-    let mut out = [0xeeu8; 400];
-    match packets::read_packet(packet, NUMBER) {
-        Ok(Packet::Command(c)) => repeated_into(
-            name,
-            c,
-            status,
-            byte,
-            count,
-            &mut out[0..room % 401],
-        ),
-        Ok(Packet::Time) | Err(_) => show::text(b"no command\n"),
-    }
-}
-
-fn repeated_into(name: &[u8], c: Command, status: u8, byte: u8, count: u32, out: &mut [u8]) {
-    let did = packets::write_repeated_reply(c.path, c.header, status, byte, count, out);
-    show::outcome(name, did, out);
+    written(name, packet, status, room, Data::Repeated(byte, count));
 }
 
 // The reply around data that are in their place already: `count` bytes of the buffer itself.
 pub(crate) fn around(name: &[u8], packet: &[u8], status: u8, room: usize, count: u32) {
-    let mut out = [0xeeu8; 400];
-    match packets::read_packet(packet, NUMBER) {
-        Ok(Packet::Command(c)) => around_into(name, c, status, count, &mut out[0..room % 401]),
-        Ok(Packet::Time) | Err(_) => show::text(b"no command\n"),
-    }
+    written(name, packet, status, room, Data::InPlace(count));
 }
 
-fn around_into(name: &[u8], c: Command, status: u8, count: u32, out: &mut [u8]) {
-    let did = packets::write_reply_around(c.path, c.header, status, count, out);
-    show::outcome(name, did, out);
+fn written(name: &[u8], packet: &[u8], status: u8, room: usize, bytes: Data) {
+    let mut buffer = [0xeeu8; 400];
+    match packets::read_packet(packet, NUMBER) {
+        Ok(Packet::Command(command)) => {
+            let out = &mut buffer[0..room % 401];
+            let did = Reply { command, status }.write(bytes, out);
+            show::outcome(name, did, out);
+        }
+        Ok(Packet::Time) | Err(_) => show::text(b"no command\n"),
+    }
 }

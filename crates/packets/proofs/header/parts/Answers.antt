@@ -7,9 +7,9 @@ returns c =
     let a = c.args in
     let whole = c.requires.1 in
     rw (
-      c.number3.ensures,
-      c.number4.ensures,
-      c.number2.ensures,
+      c.from_octets-3.ensures,
+      c.from_octets-2.ensures,
+      c.from_octets.ensures,
       transaction_bytes a.p.now a.at whole,
       address_bytes a.p.now a.at whole,
       length_bytes a.p.now a.at whole,

@@ -1,0 +1,1 @@
+-- `packets::reply::Reply::fits` meets its contract: the same two tests.
