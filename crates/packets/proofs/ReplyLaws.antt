@@ -31,12 +31,6 @@ use Rattle.packets.proofs.PathLaws.{path_part}
 pub placed_length : {o : List ℕ} (x out : List ℕ) → o ≡ placed 0 x out → length x ≤ length out → length o ≡ length out
 placed_length x out e h = ap length e ∙ length_placed 0 x out (omega arith)
 
-pub copied_length : {o : List ℕ} (d : List ℕ) (m : ℕ) (out : List ℕ) (at : ℕ) → o ≡ copied d 0 m out at → length o ≡ length out
-copied_length d m out at e = ap length e ∙ length_copied d 0 m out at
-
-pub filled_length : {o : List ℕ} (out : List ℕ) (at m b : ℕ) → o ≡ filled out at m b → length o ≡ length out
-filled_length out at m b e = ap length e ∙ length_filled out at m b
-
 -- bytes behind the bytes at the start, where the place is told as a number
 placed_next : (x y out : List ℕ) (at : ℕ) → at ≡ length x → at + length y ≤ length out → placed at y (placed 0 x out) ≡ placed 0 (x ++ y) out
 placed_next x y out at e h =
@@ -86,11 +80,6 @@ module _ (k : Path) (h : Header) (status : ℕ) where
 
   pub length_head : (n : ℕ) → is_write h.instruction ≡ false → length (path_bytes k ++ reply_head h status n) ≡ length (path_bytes k) + 12
   length_head n e = rw e (length-append (path_bytes k) (with_crc (reply_start h status ++ (0 ∷ bytes_of 3 n))))
-
--- where the whole reply has room, its header has
-pub head_room : (w : Bool) (p n room : ℕ) → p + cond w 8 (13 + n) ≤ room → p + cond w 8 12 ≤ room
-head_room true p n room h = h
-head_room false p n room h = omega arith
 
 -- ---- lengths
 
@@ -227,9 +216,6 @@ module _ (k : Path) (h : Header) (status : ℕ) (b : Data) (m : ℕ) (counts : m
   module _ {t : Bool} (test : t ≡ (ltb m (256 ^ 3) && leb (reply_length k h status m) (length out))) where
     pub reply_answer : t ≡ reply_fits k h status (data_size b) (length out)
     reply_answer = test ∙ rw (carried_length, counts)
-
-    pub reply_small : t ≡ true → m < 256 ^ 3
-    reply_small e = ltb-true m (256 ^ 3) (first_true (ltb m (256 ^ 3)) (leb (reply_length k h status m) (length out)) (sym test ∙ e))
 
     pub reply_room : t ≡ true → length (path_bytes k) + cond (is_write h.instruction) 8 (13 + m) ≤ length out
     unfolding reply_length

@@ -108,11 +108,13 @@ fn time_at(p: &[u8]) -> Time
     }
 }
 
+// Kept: a From of bool or u8 would be no plainer, since it would give every truth or number a When, and this is of one bit's two.
 fn when_of(bit: u8) -> When
     ensures { result ≡ Time·when_of bit }
 {
     if bit == 1 {
-        return When::AtOnce;
+        When::AtOnce
+    } else {
+        When::AtWrap
     }
-    When::AtWrap
 }

@@ -6,16 +6,10 @@ use native.Mathlib.Omega.{arith}
 use lib.ListN.{length}
 use Rattle.octets.specs.Places.{part}
 use Rattle.octets.proofs.PlaceLaws.{length_part}
-use Rattle.packets.specs.Instruction.{is_write}
 use Rattle.packets.specs.Path.{path_bytes}
 use Rattle.packets.specs.Reply.{reply_head}
-use Rattle.packets.proofs.ReplyLaws.{head_room, length_head, placed_length, data_ended, reply_short, reply_long}
+use Rattle.packets.proofs.ReplyLaws.{length_head, data_ended, reply_short, reply_long}
 use Rattle.packets.proofs.reply.Reply.surround.Goals as goal
-
-pub write_head-at-requires : goal.write_head-at-requires
-write_head-at-requires c =
-    let a = c.args in
-    head_room (is_write a.self.command.header.instruction) (length (path_bytes a.self.command.path)) a.count (length a.out.now) c.requires
 
 pub returns-else-not-is_to_write : goal.returns-else-not-is_to_write
 returns-else-not-is_to_write c =
@@ -23,17 +17,6 @@ returns-else-not-is_to_write c =
     let e = sym c.is_to_write.ensures ∙ c.if-not-is_to_write.false in
     let d = part (length (path_bytes a.self.command.path) + 12) a.count a.out.now in
     rw (reply_short a.self.command.path a.self.command.header a.self.status d a.count e) c.write_head-at.ensures.leaves
-
-pub end_data-requires : goal.end_data-requires
-end_data-requires c =
-    let a = c.args in
-    let e = sym c.is_to_write.ensures ∙ c.if-not-is_to_write.true in
-    let room = rw e at c.requires in
-    let place = rw e at c.write_head-at.ensures.answers in
-    let x = path_bytes a.self.command.path ++ reply_head a.self.command.header a.self.status a.count in
-    let l = length_head a.self.command.path a.self.command.header a.self.status a.count e in
-    let same = placed_length x a.out.now c.write_head-at.ensures.leaves (omega arith) in
-    omega arith
 
 pub returns-then-not-is_to_write : goal.returns-then-not-is_to_write
 returns-then-not-is_to_write c =

@@ -1,1 +1,0 @@
--- `packets::reply::Reply::fits` meets its contract: the same two tests.
