@@ -50,13 +50,9 @@ packets_determined = (
   λ κs a z z' e e' p q. p ∙ sym q,
   λ κs a z z' e e' p q. p ∙ sym q,
   λ κs a z z' e e' p q. p ∙ sym q,
+  λ κs a z z' e e' p q. p.0 ∙ sym q.0,
+  λ κs a z z' e e' p q. p.1 ∙ sym q.1,
   λ κs a z z' e e' p q. p ∙ sym q,
-  λ κs a z z' e e' p q. p.0 ∙ sym q.0,
-  λ κs a z z' e e' p q. p.1 ∙ sym q.1,
-  λ κs a z z' e e' p q. p.0 ∙ sym q.0,
-  λ κs a z z' e e' p q. p.1 ∙ sym q.1,
-  λ κs a z z' e e' p q. p.0 ∙ sym q.0,
-  λ κs a z z' e e' p q. p.1 ∙ sym q.1,
   λ κs a z z' e e' p q. p ∙ sym q,
   λ κs a z z' e e' p q. p ∙ sym q,
   λ κs a z z' e e' p q. p ∙ sym q,
@@ -112,7 +108,7 @@ pub octets_ask_nothing : OctetsAskNothing
 octets_ask_nothing = (λ κs a. tt, λ κs a. tt, λ κs a. tt, λ κs a. tt, λ κs a. tt, λ κs a. tt, λ κs a. tt, λ κs a. tt, λ κs a. tt, λ κs a. tt, λ κs a. tt, λ κs a. tt, λ κs a. tt, λ κs a. tt, λ κs a. tt)
 
 pub packets_ask_nothing : PacketsAskNothing
-packets_ask_nothing = (λ κs a. tt, λ κs a. tt, λ κs a. tt, λ κs a. tt, λ κs a. tt, λ κs a. tt, λ κs a. tt, λ κs a. tt, λ κs a. tt, λ κs a. tt, λ κs a. tt, λ κs a. tt, λ κs a. tt, λ κs a. tt, λ κs a. tt, λ κs a. tt, λ κs a. tt, λ κs a. tt, λ κs a. tt, λ κs a. tt, λ κs a. tt, λ κs a. tt, λ κs a. tt, λ κs a. tt, λ κs a. tt, λ κs a. tt, λ κs a. tt, λ κs a. tt, λ κs a. tt, λ κs a. tt, λ κs a. tt, λ κs a. tt, λ κs a. tt)
+packets_ask_nothing = (λ κs a. tt, λ κs a. tt, λ κs a. tt, λ κs a. tt, λ κs a. tt, λ κs a. tt, λ κs a. tt, λ κs a. tt, λ κs a. tt, λ κs a. tt, λ κs a. tt, λ κs a. tt, λ κs a. tt, λ κs a. tt, λ κs a. tt, λ κs a. tt, λ κs a. tt, λ κs a. tt, λ κs a. tt, λ κs a. tt, λ κs a. tt, λ κs a. tt, λ κs a. tt, λ κs a. tt, λ κs a. tt, λ κs a. tt, λ κs a. tt, λ κs a. tt, λ κs a. tt, λ κs a. tt, λ κs a. tt)
 
 pub unit_asks_nothing : UnitAsksNothing
 unit_asks_nothing = (λ κs a. tt, λ κs a. tt, λ κs a. tt, λ κs a. tt, λ κs a. tt, λ κs a. tt, λ κs a. tt)

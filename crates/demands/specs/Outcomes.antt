@@ -1,7 +1,7 @@
 -- Outcomes are determined (document 01, 'What a promise has to say'): every public function asks nothing of its caller, and any two outcomes
 -- that its promise allows are equal.
 use Rattle.std.specs.Prelude.{◌≡◌, List, ℕ}
-use Rattle.demands.specs.Rows.{first, second, fourth, fifth, sixth}
+use Rattle.demands.specs.Rows.{first, second, third, fourth, fifth, sixth}
 use Rattle.octets.proofs.crc_of.Reads.{Asked as asked·crc_of, Learnt as promise·crc_of}
 use Rattle.octets.proofs.crc_from.Reads.{Asked as asked·crc_from, Learnt as promise·crc_from}
 use Rattle.octets.proofs.read_number.Reads.{Asked as asked·read_number, Learnt as promise·read_number}
@@ -38,11 +38,9 @@ use Rattle.packets.proofs.reading.End.is_eop.Reads.{Asked as asked·End·is_eop,
 use Rattle.packets.proofs.reading.Refusal.number.Reads.{Asked as asked·Refusal·number, Learnt as promise·Refusal·number}
 use Rattle.packets.proofs.bare.Reads.{Asked as asked·bare, Learnt as promise·bare}
 use Rattle.packets.proofs.read_packet.Reads.{Asked as asked·read_packet, Learnt as promise·read_packet}
-use Rattle.packets.proofs.reply_length.Reads.{Asked as asked·reply_length, Learnt as promise·reply_length}
-use Rattle.packets.proofs.write_reply.Reads.{Asked as asked·write_reply, Learnt as promise·write_reply}
-use Rattle.packets.proofs.write_repeated_reply.Reads.{Asked as asked·write_repeated_reply, Learnt as promise·write_repeated_reply}
-use Rattle.packets.proofs.write_reply_around.Reads.{Asked as asked·write_reply_around, Learnt as promise·write_reply_around}
-use Rattle.packets.proofs.data_place.Reads.{Asked as asked·data_place, Learnt as promise·data_place}
+use Rattle.packets.proofs.reply.Reply.write.Reads.{Asked as asked·Reply·write, Learnt as promise·Reply·write}
+use Rattle.packets.proofs.reply.Reply.data_place.Reads.{Asked as asked·Reply·data_place, Learnt as promise·Reply·data_place}
+use Rattle.packets.proofs.reply.Reply.length.Reads.{Asked as asked·Reply·length, Learnt as promise·Reply·length}
 use Rattle.packets.proofs.time_number.Reads.{Asked as asked·time_number, Learnt as promise·time_number}
 use Rattle.packets.proofs.read_time.Reads.{Asked as asked·read_time, Learnt as promise·read_time}
 use Rattle.packets.proofs.ccsds_number.Reads.{Asked as asked·ccsds_number, Learnt as promise·ccsds_number}
@@ -138,14 +136,10 @@ PacketsDetermined =
     × (OneResult promise·Refusal·number)
     × (OnePart promise·bare (λ κs z. z.now))
     × (OneResult promise·read_packet)
-    × (OneResult promise·reply_length)
-    × (OneResult promise·write_reply)
-    × (OneExit promise·write_reply (λ κs e. (fifth e).now))  -- the reply buffer
-    × (OneResult promise·write_repeated_reply)
-    × (OneExit promise·write_repeated_reply (λ κs e. (sixth e).now))  -- the reply buffer
-    × (OneResult promise·write_reply_around)
-    × (OneExit promise·write_reply_around (λ κs e. (fifth e).now))  -- the reply buffer
-    × (OneResult promise·data_place)
+    × (OneResult promise·Reply·write)
+    × (OneExit promise·Reply·write (λ κs e. (third e).now))  -- the reply buffer
+    × (OneResult promise·Reply·data_place)
+    × (OneResult promise·Reply·length)
     × (OneResult promise·time_number)
     × (OneResult promise·read_time)
     × (OneResult promise·ccsds_number)
@@ -233,11 +227,9 @@ PacketsAskNothing =
     × AsksNothing asked·Refusal·number
     × AsksNothing asked·bare
     × AsksNothing asked·read_packet
-    × AsksNothing asked·reply_length
-    × AsksNothing asked·write_reply
-    × AsksNothing asked·write_repeated_reply
-    × AsksNothing asked·write_reply_around
-    × AsksNothing asked·data_place
+    × AsksNothing asked·Reply·write
+    × AsksNothing asked·Reply·data_place
+    × AsksNothing asked·Reply·length
     × AsksNothing asked·time_number
     × AsksNothing asked·read_time
     × AsksNothing asked·ccsds_number

@@ -5,6 +5,9 @@ first row = row.0
 abbrev pub second : {A B C : Type 0} → A × (B × C) → B
 second row = row.1.0
 
+abbrev pub third : {A B C D : Type 0} → A × (B × (C × D)) → C
+third row = row.1.1.0
+
 abbrev pub fourth : {A B C D E : Type 0} → A × (B × (C × (D × E))) → D
 fourth row = row.1.1.1.0
 

@@ -15,12 +15,14 @@ use Rattle.octets.specs.Places.{part, placed, copied, filled}
 use Rattle.octets.specs.Numbers.{bytes_of}
 use Rattle.octets.specs.Crc.{crc, with_crc}
 use Rattle.octets.proofs.PlaceLaws.{length_placed, length_part, part_placed, part_beside, placed_on, placed_same, placed_hides}
-use Rattle.octets.proofs.PlaceLaws.{copied_done, copied_none, length_copied, filled_done, filled_none, length_filled, placed_if_length, first_true, second_true}
+use Rattle.octets.proofs.PlaceLaws.{copied_done, length_copied, filled_done, length_filled, placed_if_length, first_true, second_true}
 use Rattle.packets.specs.Instruction.{is_write}
 use Rattle.packets.specs.Path.{path_bytes}
-use Rattle.packets.specs.Reply.{reply_start, reply_head, reply_with, data_place, carries_data, carried, carried_count, reply_of, reply_length, reply_fits, replied}
+use Rattle.packets.specs.Reply.{reply_start, reply_head, reply_with, data_place, data_in, data_size, carries_data, carried, carried_count, reply_of, reply_length, reply_fits, replied}
 use Rattle.packets.specs.declared.path.Path.{Path}
 use Rattle.packets.specs.declared.header.Header.{Header}
+use Rattle.packets.specs.declared.reply.Data.{Data}
+use Rattle.packets.specs.declared.reply.Data.TheVariants.{Bytes, Repeated, InPlace}
 use Rattle.packets.proofs.PathLaws.{path_part}
 
 -- ---- pieces put into a buffer
@@ -28,12 +30,6 @@ use Rattle.packets.proofs.PathLaws.{path_part}
 -- none of them changes the buffer's length
 pub placed_length : {o : List ℕ} (x out : List ℕ) → o ≡ placed 0 x out → length x ≤ length out → length o ≡ length out
 placed_length x out e h = ap length e ∙ length_placed 0 x out (omega arith)
-
-pub copied_length : {o : List ℕ} (d : List ℕ) (m : ℕ) (out : List ℕ) (at : ℕ) → o ≡ copied d 0 m out at → length o ≡ length out
-copied_length d m out at e = ap length e ∙ length_copied d 0 m out at
-
-pub filled_length : {o : List ℕ} (out : List ℕ) (at m b : ℕ) → o ≡ filled out at m b → length o ≡ length out
-filled_length out at m b e = ap length e ∙ length_filled out at m b
 
 -- bytes behind the bytes at the start, where the place is told as a number
 placed_next : (x y out : List ℕ) (at : ℕ) → at ≡ length x → at + length y ≤ length out → placed at y (placed 0 x out) ≡ placed 0 (x ++ y) out
@@ -84,11 +80,6 @@ module _ (k : Path) (h : Header) (status : ℕ) where
 
   pub length_head : (n : ℕ) → is_write h.instruction ≡ false → length (path_bytes k ++ reply_head h status n) ≡ length (path_bytes k) + 12
   length_head n e = rw e (length-append (path_bytes k) (with_crc (reply_start h status ++ (0 ∷ bytes_of 3 n))))
-
--- where the whole reply has room, its header has
-pub head_room : (w : Bool) (p n room : ℕ) → p + cond w 8 (13 + n) ≤ room → p + cond w 8 12 ≤ room
-head_room true p n room h = h
-head_room false p n room h = omega arith
 
 -- ---- lengths
 
@@ -173,88 +164,99 @@ around_fits k h status n out = go (is_write h.instruction) (eqb status 0) (dec_l
         rw (lt-leb (length (path_bytes k) + (13 + there)) (length out) (omega (arith, l, less)), lt-leb (length (path_bytes k) + (13 + n)) (length out) (omega (arith, less)))
         (and-false (ltb there (256 ^ 3)) ∙ sym (and-false (ltb n (256 ^ 3))))
 
--- ---- the writer: m bytes of data are carried, of n; t is its test of them
+-- as data are said to be so many
+data_fits : (k : Path) (h : Header) (status : ℕ) (b : Data) (out : List ℕ)
+    → reply_fits k h status (length (data_in k b out)) (length out) ≡ reply_fits k h status (data_size b) (length out)
+data_fits k h status (Bytes bytes) out = refl
+data_fits k h status (Repeated byte count) out = rw length-replicate
+data_fits k h status (InPlace count) out = around_fits k h status count out
 
-module _ (k : Path) (h : Header) (status n m : ℕ) (counts : m ≡ carried_count h status n) where
-  carried_length : reply_length k h status m ≡ reply_length k h status n
-  carried_length = same_length k h status m n (λ e. rw (counts, e))
+-- ---- what is carried, of n bytes of data m, in its place
 
-  module _ (out : List ℕ) {t : Bool} (test : t ≡ (ltb m (256 ^ 3) && leb (reply_length k h status m) (length out))) where
-    reply_answer : t ≡ reply_fits k h status n (length out)
+module _ (h : Header) (status : ℕ) (out : List ℕ) (at m : ℕ) where
+  pub put_copied : (d : List ℕ) {first : List ℕ} → m ≡ carried_count h status (length d) → first ≡ copied d 0 m out at → at + m ≤ length out
+      → first ≡ placed at (carried h status d) out
+  put_copied d {first} counts p room =
+      let most = carried_most (carries_data h status) (length d) in
+      let whole : part 0 m d ≡ carried h status d = rw counts (carried_part (carries_data h status) d) in
+      p ∙ copied_done d 0 m out at (omega arith) room ∙ ap (λ (x : List ℕ). placed at x out) whole
+
+  module _ (n : ℕ) (counts : m ≡ carried_count h status n) (room : at + m ≤ length out) where
+    pub put_filled : (b : ℕ) {first : List ℕ} → first ≡ filled out at m b → first ≡ placed at (carried h status (replicate n b)) out
+    put_filled b {first} p =
+        let whole : replicate m b ≡ carried h status (replicate n b) = rw counts (carried_repeated (carries_data h status) n b) in
+        p ∙ filled_done out at m b room ∙ ap (λ (x : List ℕ). placed at x out) whole
+
+    there : part at m out ≡ carried h status (part at n out)
+    there = rw counts (carried_there (carries_data h status) at n out)
+
+    pub put_there : out ≡ placed at (carried h status (part at n out)) out
+    put_there = sym (placed_same at m out room) ∙ ap (λ (x : List ℕ). placed at x out) there
+
+    length_there : length (carried h status (part at n out)) ≡ m
+    length_there = sym (ap length there) ∙ length_part at m out room
+
+-- ---- the writer: t is its test
+
+module _ (k : Path) (h : Header) (status : ℕ) (b : Data) (m : ℕ) (counts : m ≡ carried_count h status (data_size b)) (out : List ℕ) where
+  carried_length : reply_length k h status m ≡ reply_length k h status (data_size b)
+  carried_length = same_length k h status m (data_size b) (λ e. rw (counts, e))
+
+  carried_size : data_place k + m ≤ length out → length (carried h status (data_in k b out)) ≡ m
+  carried_size room = go b counts
+    where
+      all : (d : List ℕ) → m ≡ carried_count h status (length d) → length (carried h status d) ≡ m
+      all d c = length_cond (carries_data h status) d ∙ sym c
+
+      go : (b : Data) → m ≡ carried_count h status (data_size b) → length (carried h status (data_in k b out)) ≡ m
+      go (Bytes bytes) c = all bytes.now c
+      go (Repeated byte count) c = all (replicate count byte) (rw length-replicate c)
+      go (InPlace count) c = length_there h status out (data_place k) m count c room
+
+  module _ {t : Bool} (test : t ≡ (ltb m (256 ^ 3) && leb (reply_length k h status m) (length out))) where
+    pub reply_answer : t ≡ reply_fits k h status (data_size b) (length out)
     reply_answer = test ∙ rw (carried_length, counts)
-
-    pub reply_small : t ≡ true → m < 256 ^ 3
-    reply_small e = ltb-true m (256 ^ 3) (first_true (ltb m (256 ^ 3)) (leb (reply_length k h status m) (length out)) (sym test ∙ e))
 
     pub reply_room : t ≡ true → length (path_bytes k) + cond (is_write h.instruction) 8 (13 + m) ≤ length out
     unfolding reply_length
     reply_room e =
-        let r = leb-true (reply_length k h status n) (length out)
-        (second_true (ltb m (256 ^ 3)) (leb (reply_length k h status n) (length out)) (rw carried_length at (sym test ∙ e))) in
+        let r = leb-true (reply_length k h status (data_size b)) (length out)
+        (second_true (ltb m (256 ^ 3)) (leb (reply_length k h status (data_size b)) (length out)) (rw carried_length at (sym test ∙ e))) in
         rw counts r
 
-    pub reply_refused : (d : List ℕ) → length d ≡ n → t ≡ false → (false ≡ reply_fits k h status n (length out)) × (out ≡ replied k h status d out)
-    unfolding replied
-    reply_refused d l e = (sym e ∙ reply_answer, rw (l, sym reply_answer ∙ e))
+    told : (s : Bool) → t ≡ s → reply_fits k h status (length (data_in k b out)) (length out) ≡ s
+    told s e = data_fits k h status b out ∙ sym reply_answer ∙ e
 
-    -- the data are in their place, and all else goes around them
-    pub around_refused : t ≡ false → (false ≡ reply_fits k h status n (length out)) × (out ≡ replied k h status (part (data_place k) n out) out)
+    pub reply_refused : t ≡ false → out ≡ replied k h status (data_in k b out) out
     unfolding replied
-    around_refused e = (sym e ∙ reply_answer, rw (around_fits k h status n out, sym reply_answer ∙ e))
+    reply_refused e = rw (told false e)
 
-    pub reply_around : {then : List ℕ} → t ≡ true → then ≡ placed 0 (reply_with k h status (part (data_place k) m out)) out
-        → (true ≡ reply_fits k h status n (length out)) × (then ≡ replied k h status (part (data_place k) n out) out)
+    -- the data that are carried were put into their place, if there is one, and then all else around them
+    pub reply_done : {first then : List ℕ} → t ≡ true → (m ≡ 0 → first ≡ out)
+        → (data_place k + m ≤ length out → first ≡ placed (data_place k) (carried h status (data_in k b out)) out)
+        → then ≡ placed 0 (reply_with k h status (part (data_place k) m first)) first → then ≡ replied k h status (data_in k b out) out
     unfolding replied
-    reply_around e q = (sym e ∙ reply_answer, rw (around_fits k h status n out, sym reply_answer ∙ e) (q ∙ rw (counts, carried_there (carries_data h status) (data_place k) n out)))
-
-    -- the carried data were put into their place, if there is one, and then all else around them
-    reply_done : (d : List ℕ) {first then : List ℕ} (at : ℕ) → length d ≡ n → t ≡ true → at ≡ data_place k
-        → (m ≡ 0 → first ≡ out) → (at + m ≤ length out → first ≡ placed at (carried h status d) out)
-        → then ≡ placed 0 (reply_with k h status (part at m first)) first → then ≡ replied k h status d out
-    unfolding replied
-    reply_done d {first} {then} at l e a none some q =
-        rw (l, sym reply_answer ∙ e) (q ∙ go (is_write h.instruction) refl)
+    reply_done {first} {then} e none some q = rw (told true e) (q ∙ go (is_write h.instruction) refl)
       where
-        c : List ℕ
-        c = carried h status d
+        at : ℕ
+        at = data_place k
 
-        size : length c ≡ m
-        size = length_cond (carries_data h status) d ∙ ap (carried_count h status) l ∙ sym counts
+        c : List ℕ
+        c = carried h status (data_in k b out)
 
         go : (w : Bool) → is_write h.instruction ≡ w
-            → placed 0 (reply_with k h status (part at m first)) first ≡ placed 0 (reply_of k h status d) out
+            → placed 0 (reply_with k h status (part at m first)) first ≡ placed 0 (reply_of k h status (data_in k b out)) out
         go true w =
             rw (none (counts ∙ rw w), reply_short k h status (part at m out) 0 w, reply_short k h status c 0 w)
         go false w =
             let room = rw w at (reply_room e) in
+            let size = carried_size (omega arith) in
             let f = some (omega arith) in
             let there : part at m first ≡ c =
             ap (part at m) f ∙ rw (← size) (part_placed at c out (omega (arith, size))) in
             let long : length (reply_with k h status c) ≡ length (path_bytes k) + (13 + length c) =
             length_with k h status c ∙ ap (λ (b : Bool). length (path_bytes k) + cond b 8 (13 + length c)) w in
             rw (there, f) (placed_hides 0 at (reply_with k h status c) c out (omega arith) (omega (arith, size)) (omega (arith, size)))
-
-    -- the same, where a copy or a fill put them there
-    pub reply_copied : (d : List ℕ) {first then : List ℕ} (at : ℕ) → length d ≡ n → t ≡ true → at ≡ data_place k
-        → first ≡ copied d 0 m out at → then ≡ placed 0 (reply_with k h status (part (data_place k) m first)) first
-        → (true ≡ reply_fits k h status n (length out)) × (then ≡ replied k h status d out)
-    reply_copied d {first} {then} at l e z p q =
-        let most = carried_most (carries_data h status) n in
-        let whole : part 0 m d ≡ carried h status d = rw (counts, ← l) (carried_part (carries_data h status) d) in
-        let some : at + m ≤ length out → first ≡ placed at (carried h status d) out = λ r. p ∙ copied_done d 0 m out at (omega arith) r ∙ ap (λ (x : List ℕ). placed at x out) whole in (
-          sym e ∙ reply_answer,
-          reply_done d at l e z (λ y. p ∙ copied_none d 0 m out at y) some (rw z q),
-        )
-
-    pub reply_filled : (b : ℕ) {first then : List ℕ} (at : ℕ) → t ≡ true → at ≡ data_place k
-        → first ≡ filled out at m b → then ≡ placed 0 (reply_with k h status (part (data_place k) m first)) first
-        → (true ≡ reply_fits k h status n (length out)) × (then ≡ replied k h status (replicate n b) out)
-    reply_filled b {first} {then} at e z p q =
-        let whole : replicate m b ≡ carried h status (replicate n b) = rw counts (carried_repeated (carries_data h status) n b) in
-        let some : at + m ≤ length out → first ≡ placed at (carried h status (replicate n b)) out = λ r. p ∙ filled_done out at m b r ∙ ap (λ (x : List ℕ). placed at x out) whole in (
-          sym e ∙ reply_answer,
-          reply_done (replicate n b) at (length-replicate n b) e z (λ y. p ∙ filled_none out at m b y) some (rw z q),
-        )
 
 -- ---- a reply that carries n bytes of data, and has room with them
 

@@ -1,12 +1,14 @@
 -- The reply to a command (document 01, 'Reply'; 001, 5.3.2, 5.4.2 and 5.5.2). It is sent if the command wants one: `wants_reply`.
-use Rattle.std.specs.Prelude.{Bool, cond, not, ◌&&◌, List, [], ◌∷◌, ◌++◌, ℕ, ◌+◌, ◌^◌, eqb, leb, ltb, length}
-use Rattle.octets.specs.Places.{placed}
+use Rattle.std.specs.Prelude.{Bool, cond, not, ◌&&◌, List, [], ◌∷◌, ◌++◌, ℕ, ◌+◌, ◌^◌, eqb, leb, ltb, length, replicate}
+use Rattle.octets.specs.Places.{part, placed}
 use Rattle.octets.specs.Numbers.{bytes_of}
 use Rattle.octets.specs.Crc.{with_crc}
 use Rattle.packets.specs.Instruction.{is_write, reply_form}
 use Rattle.packets.specs.Path.{path_bytes}
 use Rattle.packets.specs.declared.path.Path.{Path}
 use Rattle.packets.specs.declared.header.Header.{Header}
+use Rattle.packets.specs.declared.reply.Data.{Data}
+use Rattle.packets.specs.declared.reply.Data.TheVariants.{Bytes, Repeated, InPlace}
 
 -- Behind the path: initiator address, protocol, instruction with type 00, status, target address as received, transaction.
 abbrev pub reply_start : Header → ℕ → List ℕ
@@ -26,6 +28,19 @@ reply_with k h status d = path_bytes k ++ reply_head h status (length d) ++ cond
 -- Where the data stand in it: behind the path and the twelve bytes of a header that tells their length.
 abbrev pub data_place : Path → ℕ
 data_place k = length (path_bytes k) + 12
+
+-- The data, where a buffer holds these bytes before the reply is written into it: bytes; one byte, so many times over; or so many bytes that stand
+-- in their place already.
+abbrev pub data_in : Path → Data → List ℕ → List ℕ
+data_in k (Bytes bytes) out = bytes.now
+data_in k (Repeated byte count) out = replicate count byte
+data_in k (InPlace count) out = part (data_place k) count out
+
+-- How many they are. (Of those in their place not all need be there: then the reply doesn't fit.)
+abbrev pub data_size : Data → ℕ
+data_size (Bytes bytes) = length bytes.now
+data_size (Repeated byte count) = count
+data_size (InPlace count) = count
 
 -- Data follow only without the write bit and with status 0: errors carry none.
 abbrev pub carries_data : Header → ℕ → Bool

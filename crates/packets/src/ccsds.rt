@@ -3,6 +3,7 @@ ghost use Rattle.std.specs.Prelude.{◌≡◌, length};
 ghost use Rattle.packets.specs.Ccsds.{ccsds_number_of, unsent_number_of, is_space_packet as Ccsds·is_space_packet, space_packet_in, read_ccsds as Ccsds·read_ccsds, sending, sent};
 
 use crate::reading::End;
+use octets::Octets;
 
 // Why nothing is sent.
 #[derive(Clone, Copy, PartialEq, Eq)]
@@ -91,6 +92,6 @@ fn is_space_packet(s: &[u8]) -> bool
     if s.len() < 7 {
         return false;
     }
-    let field = octets::number2(s[4], s[5]) as usize;
+    let field = u16::from_octets([s[4], s[5]]) as usize;
     (s[0] / 0b0010_0000 == 0) & (field + 7 == s.len())
 }

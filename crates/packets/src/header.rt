@@ -3,6 +3,7 @@ ghost use Rattle.std.specs.Prelude.{◌≡◌, ◌+◌, ◌≤◌, length};
 ghost use Rattle.packets.specs.Header.{parts_at};
 
 use crate::instruction::Instruction;
+use octets::Octets;
 
 // Its parts, less the reply address, which a path keeps, and the CRC.
 #[derive(Clone, Copy, PartialEq, Eq)]
@@ -32,14 +33,14 @@ pub(crate) fn parts(p: &[u8], at: usize) -> Header
         instruction: Instruction { byte: p[2] },
         key: p[3],
         initiator: p[at],
-        transaction: octets::number2(p[transaction_at], p[transaction_at + 1]),
+        transaction: u16::from_octets([p[transaction_at], p[transaction_at + 1]]),
         extended: p[at + 3],
-        address: octets::number4(
+        address: u32::from_octets([
             p[address_at],
             p[address_at + 1],
             p[address_at + 2],
             p[address_at + 3],
-        ),
-        length: octets::number3(p[length_at], p[length_at + 1], p[length_at + 2]),
+        ]),
+        length: u32::from_octets([p[length_at], p[length_at + 1], p[length_at + 2]]),
     }
 }

@@ -15,5 +15,5 @@ pub use header::Header;
 pub use instruction::{Instruction, Kind};
 pub use path::Path;
 pub use reading::{Command, End, Packet, Refusal, bare, read_packet};
-pub use reply::{data_place, reply_length, write_repeated_reply, write_reply, write_reply_around};
+pub use reply::{Data, Reply};
 pub use time::{Time, When, read_time, time_number};

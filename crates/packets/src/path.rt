@@ -25,11 +25,7 @@ impl Path {
         ensures answers { result ≡ length (path_bytes self) }
         ensures small { result ≤ 12 }
     {
-        let count = self.count;
-        if 12 < count {
-            return 12;
-        }
-        count
+        self.count.min(12)
     }
 
     // Whether two kept paths are one: all twelve bytes and the count.

@@ -1,145 +1,199 @@
 // The reply to a command (document 01, 'Reply'; 001, 5.3.2, 5.4.2 and 5.5.2).
-ghost use Rattle.std.specs.Prelude.{◌≡◌, [], ◌∷◌, ◌++◌, cond, ◌&&◌, ◌+◌, ◌^◌, ◌≤◌, ◌<◌, leb, ltb, length, replicate};
+ghost use Rattle.std.specs.Prelude.{◌≡◌, ◌∷◌, [], ◌++◌, cond, ◌&&◌, ◌+◌, ◌^◌, ◌≤◌, ◌<◌, leb, ltb, length};
 ghost use Rattle.octets.specs.Crc.{crc, with_crc};
 ghost use Rattle.octets.specs.Numbers.{bytes_of};
 ghost use Rattle.octets.specs.Places.{part, placed};
 ghost use Rattle.packets.specs.Instruction.{is_write};
 ghost use Rattle.packets.specs.Path.{path_bytes};
-ghost use Rattle.packets.specs.Reply.{reply_start, reply_head, reply_with, data_place as Reply·data_place, carries_data as Reply·carries_data, carried_count as Reply·carried_count};
-ghost use Rattle.packets.specs.Reply.{reply_length as Reply·reply_length, reply_fits, replied};
+ghost use Rattle.packets.specs.Reply.{reply_start, reply_head, reply_with, data_place as Reply·data_place, data_size, data_in, carries_data as Reply·carries_data, carried, carried_count as Reply·carried_count};
+ghost use Rattle.packets.specs.Reply.{reply_length, reply_fits, replied};
 
-use crate::header::Header;
 use crate::path::Path;
+use crate::reading::Command;
+use octets::Octets;
 
-// Writes the reply, with the bytes as its data if it carries any, at the start of a lent buffer, all or nothing. True if it did. The
-// data come first, so that their CRC is taken where they stand. Where none are carried, the copy changes nothing, also where its
-// place would be past the buffer.
-pub fn write_reply(path: Path, header: Header, status: u8, bytes: &[u8], out: &mut [u8]) -> bool
-    ensures answers { result ≡ reply_fits path header status (length bytes.now) (length out.old) }
-    ensures leaves { out.new ≡ replied path header status bytes.now out.old }
-{
-    let n = carried_count(header, status, bytes.len());
-    if !fits(path, header, status, n, out.len()) {
-        return false;
+// A reply, less its data: the command that it answers, and the status.
+#[derive(Clone, Copy, PartialEq, Eq)]
+pub struct Reply {
+    pub command: Command,
+    pub status: u8,
+}
+
+// The data that a reply carries, if it carries any.
+#[derive(Clone, Copy)]
+pub enum Data<'a> {
+    // These bytes.
+    Bytes(&'a [u8]),
+    // One byte, so many times over.
+    Repeated(u8, u32),
+    // So many bytes that are in their place in the buffer already.
+    InPlace(u32),
+}
+
+impl Reply {
+    // Writes the reply at the start of a lent buffer, all or nothing. True if it did. The data come first, so that their CRC is taken
+    // where they stand.
+    pub fn write(self, bytes: Data, out: &mut [u8]) -> bool
+        ensures answers { result ≡ reply_fits self.command.path self.command.header self.status (data_size bytes.entry) (length out.old) }
+        ensures leaves { out.new ≡ replied self.command.path self.command.header self.status (data_in self.command.path bytes.entry out.old) out.old }
+    {
+        let n = self.carried_count(bytes.size());
+        if !self.fits(n, out.len()) {
+            return false;
+        }
+        self.put(bytes, n, out);
+        self.surround(n as u32, out);
+        true
     }
-    octets::copy_part(bytes, 0, n, out, data_place(path));
-    surround(path, header, status, n as u32, out);
-    true
-}
 
-// The same where the data are one byte, `count` times over.
-pub fn write_repeated_reply(
-    path: Path,
-    header: Header,
-    status: u8,
-    byte: u8,
-    count: u32,
-    out: &mut [u8],
-) -> bool
-    ensures answers { result ≡ reply_fits path header status count (length out.old) }
-    ensures leaves { out.new ≡ replied path header status (replicate count byte) out.old }
-{
-    let n = carried_count(header, status, count as usize);
-    if !fits(path, header, status, n, out.len()) {
-        return false;
+    // Where the data stand, if it carries any.
+    pub fn data_place(self) -> usize
+        ensures { result ≡ Reply·data_place self.command.path }
+    {
+        self.command.path.size() + 12
     }
-    octets::fill(out, data_place(path), n, byte);
-    surround(path, header, status, n as u32, out);
-    true
-}
 
-// The same where the data, `count` bytes, are in their place in the buffer already.
-pub fn write_reply_around(
-    path: Path,
-    header: Header,
-    status: u8,
-    count: u32,
-    out: &mut [u8],
-) -> bool
-    ensures answers { result ≡ reply_fits path header status count (length out.old) }
-    ensures leaves { out.new ≡ replied path header status (part (Reply·data_place path) count out.old) out.old }
-{
-    let n = carried_count(header, status, count as usize);
-    if !fits(path, header, status, n, out.len()) {
-        return false;
+    // How long the reply is, where `count` bytes of data go with it if it carries data.
+    pub fn length(self, count: u32) -> usize
+        ensures { result ≡ reply_length self.command.path self.command.header self.status count }
+    {
+        let size = self.command.path.size();
+        if self.is_to_write() {
+            return size + 8;
+        }
+        size + 13 + self.carried_count(count as usize)
     }
-    surround(path, header, status, n as u32, out);
-    true
-}
 
-// Their place: where the data of a reply stand, if it carries any.
-pub fn data_place(path: Path) -> usize
-    ensures { result ≡ Reply·data_place path }
-{
-    path.size() + 12
-}
-
-// How long the reply is, where `count` bytes of data go with it if it carries data.
-pub fn reply_length(path: Path, header: Header, status: u8, count: u32) -> usize
-    ensures { result ≡ Reply·reply_length path header status count }
-{
-    if header.instruction.is_write() {
-        return path.size() + 8;
+    // Whether it answers a command with the write bit.
+    fn is_to_write(self) -> bool
+        ensures { result ≡ is_write self.command.header.instruction }
+    {
+        self.command.header.instruction.is_write()
     }
-    if carries_data(header, status) {
-        return path.size() + 13 + count as usize;
+
+    // Whether data follow: not to a command with the write bit, nor with an error.
+    fn carries_data(self) -> bool
+        ensures { result ≡ Reply·carries_data self.command.header self.status }
+    {
+        !self.is_to_write() & (self.status == 0)
     }
-    path.size() + 13
-}
 
-// Whether data follow: not to a command with the write bit, nor with an error.
-fn carries_data(header: Header, status: u8) -> bool
-    ensures { result ≡ Reply·carries_data header status }
-{
-    !header.instruction.is_write() & (status == 0)
-}
-
-// How many of n bytes of data follow.
-fn carried_count(header: Header, status: u8, n: usize) -> usize
-    ensures { result ≡ Reply·carried_count header status n }
-{
-    if carries_data(header, status) { n } else { 0 }
-}
-
-// Whether a reply that carries n bytes of data can be written.
-fn fits(path: Path, header: Header, status: u8, n: usize, room: usize) -> bool
-    ensures { result ≡ (ltb n (256 ^ 3) && leb (Reply·reply_length path header status n) room) }
-{
-    if 0xFF_FFFF < n {
-        return false;
+    // How many of n bytes of data follow.
+    fn carried_count(self, n: usize) -> usize
+        ensures { result ≡ Reply·carried_count self.command.header self.status n }
+    {
+        if self.carries_data() { n } else { 0 }
     }
-    reply_length(path, header, status, n as u32) <= room
+
+    // Whether a reply that carries n bytes of data can be written.
+    fn fits(self, n: usize, room: usize) -> bool
+        ensures { result ≡ (ltb n (256 ^ 3) && leb (reply_length self.command.path self.command.header self.status n) room) }
+    {
+        (n <= 0xFF_FFFF) && (self.length(n as u32) <= room)
+    }
+
+    // Puts the n bytes of data that are carried into their place. Where none are, nothing changes, also where the place would be past
+    // the buffer.
+    fn put(self, bytes: Data, n: usize, out: &mut [u8])
+        requires { n ≡ Reply·carried_count self.command.header self.status (data_size bytes) }
+        ensures size { length out.new ≡ length out.old }
+        ensures none { n ≡ 0 → out.new ≡ out.old }
+        ensures some { Reply·data_place self.command.path + n ≤ length out.old → out.new ≡ placed (Reply·data_place self.command.path) (carried self.command.header self.status (data_in self.command.path bytes.entry out.old)) out.old }
+    {
+        let at = self.data_place();
+        match bytes {
+            Data::Bytes(these) => {
+                octets::copy_part(these, 0, n, out, at);
+            }
+            Data::Repeated(byte, _) => {
+                octets::fill(out, at, n, byte);
+            }
+            Data::InPlace(_) => {}
+        }
+    }
+
+    // Writes what stands around the `count` bytes of data, which are in their place: path and header, and the data CRC. A reply to a
+    // command with the write bit ends with its header.
+    fn surround(self, count: u32, out: &mut [u8])
+        requires { length (path_bytes self.command.path) + cond (is_write self.command.header.instruction) 8 (13 + count) ≤ length out.old }
+        ensures { out.new ≡ placed 0 (reply_with self.command.path self.command.header self.status (part (Reply·data_place self.command.path) count out.old)) out.old }
+    {
+        let at = self.write_head(count, out);
+        if !self.is_to_write() {
+            end_data(at, count as usize, out);
+        }
+    }
+
+    // Writes the path and the header of the reply at the start of a buffer that has room for them. Answers the place behind them.
+    fn write_head(self, count: u32, out: &mut [u8]) -> usize
+        requires { length (path_bytes self.command.path) + cond (is_write self.command.header.instruction) 8 12 ≤ length out.old }
+        ensures answers { result ≡ length (path_bytes self.command.path) + cond (is_write self.command.header.instruction) 8 12 }
+        ensures leaves { out.new ≡ placed 0 (path_bytes self.command.path ++ reply_head self.command.header self.status count) out.old }
+    {
+        let path = self.command.path;
+        let size = path.size();
+        write_path(path, out);
+        if self.is_to_write() {
+            let head = self.short_head();
+            octets::copy_part(&head, 0, 8, out, size);
+            return size + 8;
+        }
+        let head = self.long_head(count);
+        octets::copy_part(&head, 0, 12, out, size);
+        size + 12
+    }
+
+    // What the headers of all replies begin with.
+    fn start(self) -> [u8; 7]
+        ensures { result ≡ reply_start self.command.header self.status }
+    {
+        let h = self.command.header;
+        let form = h.instruction.reply_form();
+        let t: [u8; 2] = h.transaction.to_octets();
+        [
+            h.initiator,
+            h.protocol,
+            form.byte,
+            self.status,
+            h.target,
+            t[0],
+            t[1],
+        ]
+    }
+
+    // The header of the reply to a command with the write bit.
+    fn short_head(self) -> [u8; 8]
+        ensures { result ≡ with_crc (reply_start self.command.header self.status) }
+    {
+        let s = self.start();
+        let k = octets::crc_of(&s);
+        [s[0], s[1], s[2], s[3], s[4], s[5], s[6], k]
+    }
+
+    // And to one without, with the length of its data.
+    fn long_head(self, count: u32) -> [u8; 12]
+        ensures { result ≡ with_crc (reply_start self.command.header self.status ++ (0 ∷ bytes_of 3 count)) }
+    {
+        let s = self.start();
+        let n: [u8; 3] = count.to_octets();
+        let mut head = [
+            s[0], s[1], s[2], s[3], s[4], s[5], s[6], 0, n[0], n[1], n[2], 0,
+        ];
+        head[11] = octets::crc_of(&head[0..11]);
+        head
+    }
 }
 
-// Writes what stands around the `count` bytes of data, which are in their place: path and header, and the data CRC. A reply to a
-// command with the write bit ends with its header.
-fn surround(path: Path, header: Header, status: u8, count: u32, out: &mut [u8])
-    requires { length (path_bytes path) + cond (is_write header.instruction) 8 (13 + count) ≤ length out.old }
-    ensures { out.new ≡ placed 0 (reply_with path header status (part (Reply·data_place path) count out.old)) out.old }
-{
-    let at = write_head(path, header, status, count, out);
-    if header.instruction.is_write() {
-        return;
+impl Data<'_> {
+    // How many bytes they are.
+    fn size(self) -> usize
+        ensures { result ≡ data_size self.entry }
+    {
+        match self {
+            Data::Bytes(bytes) => bytes.len(),
+            Data::Repeated(_, count) | Data::InPlace(count) => count as usize,
+        }
     }
-    end_data(at, count as usize, out);
-}
-
-// Writes the path and the header of the reply at the start of a buffer that has room for them. Answers the place behind them.
-fn write_head(path: Path, header: Header, status: u8, count: u32, out: &mut [u8]) -> usize
-    requires { length (path_bytes path) + cond (is_write header.instruction) 8 12 ≤ length out.old }
-    ensures answers { result ≡ length (path_bytes path) + cond (is_write header.instruction) 8 12 }
-    ensures leaves { out.new ≡ placed 0 (path_bytes path ++ reply_head header status count) out.old }
-{
-    let size = path.size();
-    write_path(path, out);
-    if header.instruction.is_write() {
-        let head = short_head(header, status);
-        octets::copy_part(&head, 0, 8, out, size);
-        return size + 8;
-    }
-    let head = long_head(header, status, count);
-    octets::copy_part(&head, 0, 12, out, size);
-    size + 12
 }
 
 fn write_path(path: Path, out: &mut [u8])
@@ -147,8 +201,7 @@ fn write_path(path: Path, out: &mut [u8])
     ensures { out.new ≡ placed 0 (path_bytes path) out.old }
 {
     let size = path.size();
-    let bytes = path.bytes;
-    octets::copy_part(&bytes, 12 - size, size, out, 0);
+    octets::copy_part(&path.bytes, 12 - size, size, out, 0);
 }
 
 // Writes their CRC behind the `count` bytes of data at `at`.
@@ -159,43 +212,4 @@ fn end_data(at: usize, count: usize, out: &mut [u8])
     let end = at + count;
     let k = octets::crc_of(&out[at..end]);
     octets::fill(out, end, 1, k);
-}
-
-// What the headers of all replies begin with.
-fn start_of(h: Header, status: u8) -> [u8; 7]
-    ensures { result ≡ reply_start h status }
-{
-    let form = h.instruction.reply_form();
-    let t = octets::bytes2(h.transaction);
-    [
-        h.initiator,
-        h.protocol,
-        form.byte,
-        status,
-        h.target,
-        t[0],
-        t[1],
-    ]
-}
-
-// The header of the reply to a command with the write bit.
-fn short_head(h: Header, status: u8) -> [u8; 8]
-    ensures { result ≡ with_crc (reply_start h status) }
-{
-    let s = start_of(h, status);
-    let k = octets::crc_of(&s);
-    [s[0], s[1], s[2], s[3], s[4], s[5], s[6], k]
-}
-
-// And to one without, with the length of its data.
-fn long_head(h: Header, status: u8, count: u32) -> [u8; 12]
-    ensures { result ≡ with_crc (reply_start h status ++ (0 ∷ bytes_of 3 count)) }
-{
-    let s = start_of(h, status);
-    let n = octets::bytes3(count);
-    let mut head = [
-        s[0], s[1], s[2], s[3], s[4], s[5], s[6], 0, n[0], n[1], n[2], 0,
-    ];
-    head[11] = octets::crc_of(&head[0..11]);
-    head
 }

@@ -4,6 +4,7 @@ ghost use Rattle.std.specs.List.{list_all};
 ghost use Rattle.packets.specs.Time.{time_number_of, when_of as Time·when_of, octet_bits, added_seconds as Time·added_seconds, is_time_packet as Time·is_time_packet, time_at as Time·time_at, read_time as Time·read_time};
 
 use crate::reading::End;
+use octets::Octets;
 
 // When the time that a packet brings is to be taken: at the wrap of the Time-Code, or at once.
 #[derive(Clone, Copy, PartialEq, Eq)]
@@ -95,7 +96,7 @@ fn time_at(p: &[u8]) -> Time
     Time {
         epoch: p[2],
         when: when_of(octet % 2),
-        value: octets::number7(
+        value: u64::from_octets([
             p[at],
             p[at + 1],
             p[at + 2],
@@ -103,15 +104,17 @@ fn time_at(p: &[u8]) -> Time
             p[at + 4],
             p[at + 5],
             p[at + 6],
-        ),
+        ]),
     }
 }
 
+// Kept: a From of bool or u8 would be no plainer, since it would give every truth or number a When, and this is of one bit's two.
 fn when_of(bit: u8) -> When
     ensures { result ≡ Time·when_of bit }
 {
     if bit == 1 {
-        return When::AtOnce;
+        When::AtOnce
+    } else {
+        When::AtWrap
     }
-    When::AtWrap
 }

@@ -18,7 +18,7 @@ use crate::owner::Sender;
 use crate::unit::Unit;
 use crate::{clock, fields};
 use octets::Octets;
-use packets::Command;
+use packets::{Command, Data, Reply};
 
 // ---- the reply
 
@@ -39,63 +39,47 @@ pub(crate) fn respond(
             command,
             status: status_byte(plan.status),
         };
-        to.answer(plan.action, unit, link, memory, reply);
+        answer(to, plan.action, unit, link, memory, reply);
     }
 }
 
-// A reply less its data: to which command, with which status.
-#[derive(Clone, Copy)]
-struct Reply {
-    command: Command,
-    status: u8,
-}
-
-impl Reply {
-    fn answer(self, action: Action, unit: Unit, link: u8, memory: &[u8], out: &mut [u8])
-        requires { Readable action (length memory.now) × Answerable action self.command.header self.command.path self.status (length out.old) }
-        ensures { out.new ≡ replied self.command.path self.command.header self.status (data_for action unit link memory.now) out.old }
-    {
-        match action {
-            Action::Nothing
-            | Action::Store(_, _, _)
-            | Action::StoreLast(_, _, _)
-            | Action::WriteField(_, _) => self.write(&[], out),
-            Action::ReadMemory(at, count) | Action::Combine(at, _, count) => {
-                self.write_memory(memory, at, count, out);
-            }
-            Action::RepeatByte(at, count) => {
-                let Command { header, path } = self.command;
-                let byte = byte_at(memory, at, count);
-                packets::write_repeated_reply(path, header, self.status, byte, count, out);
-            }
-            Action::ReadFields(address, count) => {
-                let bytes = shown(unit, link, address, count);
-                self.write(&bytes[..4 * count], out);
-            }
-            Action::Swap(_, _) => {
-                let device: [u8; 4] = unit.owner.device.to_octets();
-                self.write(&device, out);
-            }
+fn answer(to: Reply, action: Action, unit: Unit, link: u8, memory: &[u8], out: &mut [u8])
+    requires { Readable action (length memory.now) × Answerable action to.command.header to.command.path to.status (length out.old) }
+    ensures { out.new ≡ replied to.command.path to.command.header to.status (data_for action unit link memory.now) out.old }
+{
+    match action {
+        Action::Nothing
+        | Action::Store(_, _, _)
+        | Action::StoreLast(_, _, _)
+        | Action::WriteField(_, _) => {
+            to.write(Data::Bytes(&[]), out);
+        }
+        Action::ReadMemory(at, count) | Action::Combine(at, _, count) => {
+            answer_memory(to, memory, at, count, out);
+        }
+        Action::RepeatByte(at, count) => {
+            let byte = byte_at(memory, at, count);
+            to.write(Data::Repeated(byte, count), out);
+        }
+        Action::ReadFields(address, count) => {
+            let bytes = shown(unit, link, address, count);
+            to.write(Data::Bytes(&bytes[..4 * count]), out);
+        }
+        Action::Swap(_, _) => {
+            let device: [u8; 4] = unit.owner.device.to_octets();
+            to.write(Data::Bytes(&device), out);
         }
     }
+}
 
-    fn write(self, bytes: &[u8], out: &mut [u8])
-        ensures { out.new ≡ replied self.command.path self.command.header self.status bytes.now out.old }
-    {
-        let Command { header, path } = self.command;
-        packets::write_reply(path, header, self.status, bytes, out);
-    }
-
-    // Bytes of memory are gathered into their place in the reply, which is then written around them.
-    fn write_memory(self, memory: &[u8], at: usize, count: usize, out: &mut [u8])
-        requires { (at + count ≤ length memory.now) × Gatherable count self.command.header self.command.path self.status (length out.old) }
-        ensures { out.new ≡ replied self.command.path self.command.header self.status (part at count memory.now) out.old }
-    {
-        let Command { header, path } = self.command;
-        let place = packets::data_place(path);
-        gather(memory, at, &mut out[place..place + count]);
-        packets::write_reply_around(path, header, self.status, count as u32, out);
-    }
+// Bytes of memory are gathered into their place in the reply, which is then written around them.
+fn answer_memory(to: Reply, memory: &[u8], at: usize, count: usize, out: &mut [u8])
+    requires { (at + count ≤ length memory.now) × Gatherable count to.command.header to.command.path to.status (length out.old) }
+    ensures { out.new ≡ replied to.command.path to.command.header to.status (part at count memory.now) out.old }
+{
+    let place = to.data_place();
+    gather(memory, at, &mut out[place..place + count]);
+    to.write(Data::InPlace(count as u32), out);
 }
 
 // The byte at a place of memory, which is to be repeated. Where that is 0 times, there may be none.

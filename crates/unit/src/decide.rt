@@ -21,7 +21,7 @@ use crate::owner::{Owner, Sender};
 use crate::unit::Unit;
 use crate::windows::Windows;
 use octets::Octets;
-use packets::{Command, End, Header, Instruction, Kind, Path};
+use packets::{Command, End, Header, Instruction, Kind, Path, Reply};
 
 // ---- the first half: what the header decides
 
@@ -342,7 +342,11 @@ impl Asked {
                 length: 0,
             };
         }
-        let length = packets::reply_length(path, h, status_byte(status), self.reply_count());
+        let reply = Reply {
+            command: Command { header: h, path },
+            status: status_byte(status),
+        };
+        let length = reply.length(self.reply_count());
         if room < length {
             return Plan {
                 fate: Fate::NoRoom,

@@ -1,7 +1,8 @@
 // Packets that are read, and replies that are written.
 use crate::edges;
 use console::{Row, say};
-use packets::{Command, Header, Packet, Path};
+use octets::Octets;
+use packets::{Command, Data, Header, Packet, Path, Reply};
 
 // The time number of the unit that would read them.
 const NUMBER: u8 = 0xf0;
@@ -27,9 +28,11 @@ pub(crate) fn read(name: &[u8], packet: &[u8]) {
 // header's size.
 fn parts(name: &[u8], h: Header) {
     let first = [h.target, h.protocol, h.instruction.byte, h.key, h.initiator];
-    say!(name; ":{}{}", Row(&first), Row(&octets::bytes2(h.transaction)));
-    say!(" {:02x}{}", h.extended, Row(&octets::bytes4(h.address)));
-    say!("{}\n", Row(&octets::bytes3(h.length)));
+    let transaction: [u8; 2] = h.transaction.to_octets();
+    let address: [u8; 4] = h.address.to_octets();
+    let length: [u8; 3] = h.length.to_octets();
+    say!(name; ":{}{}", Row(&first), Row(&transaction));
+    say!(" {:02x}{}{}\n", h.extended, Row(&address), Row(&length));
     say!(" header: {}\n", h.instruction.header_size());
 }
 
@@ -59,35 +62,12 @@ pub(crate) fn same(name: &[u8], first: &[u8], second: &[u8]) {
 }
 
 // The reply to a command, written into a buffer of `room` bytes (at most 400), each of them ee before.
-pub(crate) fn reply(name: &[u8], packet: &[u8], status: u8, room: usize, bytes: &[u8]) {
-    written(name, packet, room, |c, out| {
-        packets::write_reply(c.path, c.header, status, bytes, out)
-    });
-}
-
-// The same, where the data are one byte, `count` times over.
-pub(crate) fn repeated(name: &[u8], packet: &[u8], status: u8, room: usize, byte: u8, count: u32) {
-    written(name, packet, room, |c, out| {
-        packets::write_repeated_reply(c.path, c.header, status, byte, count, out)
-    });
-}
-
-// The reply around data that are in their place already: `count` bytes of the buffer itself.
-pub(crate) fn around(name: &[u8], packet: &[u8], status: u8, room: usize, count: u32) {
-    written(name, packet, room, |c, out| {
-        packets::write_reply_around(c.path, c.header, status, count, out)
-    });
-}
-
-// What a way to write the reply answers, and the buffer after it.
-fn written<F: FnOnce(Command, &mut [u8]) -> bool>(name: &[u8], packet: &[u8], room: usize, write: F)
-    requires { F.IsAlwaysCallable write }
-{
+pub(crate) fn reply(name: &[u8], packet: &[u8], status: u8, room: usize, bytes: Data) {
     let mut space = [0xeeu8; 400];
     let out = &mut space[..room % 401];
     match command(packet) {
-        Some(c) => {
-            let did = write(c, out);
+        Some(command) => {
+            let did = Reply { command, status }.write(bytes, out);
             edges::outcome(name, did, out);
         }
         None => say!("no command\n"),

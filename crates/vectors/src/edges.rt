@@ -1,29 +1,29 @@
 // Copies, fills and numbers at the edges of a buffer of eight bytes; and rows at the lengths where the CRC takes another way.
 use console::{Row, say};
+use octets::Octets;
 
 // What the buffer holds before each call.
 const LENT: [u8; 8] = [0xf0, 0xf1, 0xf2, 0xf3, 0xf4, 0xf5, 0xf6, 0xf7];
 
 pub(crate) fn numbers_of_bytes() {
     say!("numbers of bytes at hand\n");
-    say!("2: {:016x}\n", octets::number2(0xfe, 0xdc));
-    say!("3: {:016x}\n", octets::number3(0xfe, 0xdc, 0xba));
-    say!("4: {:016x}\n", octets::number4(0xa0, 0x00, 0x00, 0x10));
-    say!(
-        "7: {:016x}\n",
-        octets::number7(0xfe, 0xdc, 0xba, 0x98, 0x76, 0x54, 0x32)
-    );
+    say!("2: {:016x}\n", u16::from_octets([0xfe, 0xdc]));
+    say!("3: {:016x}\n", u32::from_octets([0xfe, 0xdc, 0xba]));
+    say!("4: {:016x}\n", u32::from_octets([0xa0, 0x00, 0x00, 0x10]));
+    let seven = [0xfe, 0xdc, 0xba, 0x98, 0x76, 0x54, 0x32];
+    say!("7: {:016x}\n", u64::from_octets(seven));
 }
 
 pub(crate) fn bytes_of_numbers() {
     say!("lowest bytes of numbers\n");
-    say!("2 of fedc:{}\n", Row(&octets::bytes2(0xfedc)));
-    say!("3 of fedcba98:{}\n", Row(&octets::bytes3(0xfedcba98)));
-    say!("4 of a0000010:{}\n", Row(&octets::bytes4(0xa0000010)));
-    say!(
-        "7 of fedcba9876543210:{}\n",
-        Row(&octets::bytes7(0xfedcba9876543210))
-    );
+    let two: [u8; 2] = 0xfedcu16.to_octets();
+    let three: [u8; 3] = 0xfedcba98u32.to_octets();
+    let four: [u8; 4] = 0xa0000010u32.to_octets();
+    let seven: [u8; 7] = 0xfedcba9876543210u64.to_octets();
+    say!("2 of fedc:{}\n", Row(&two));
+    say!("3 of fedcba98:{}\n", Row(&three));
+    say!("4 of a0000010:{}\n", Row(&four));
+    say!("7 of fedcba9876543210:{}\n", Row(&seven));
 }
 
 pub(crate) fn copy(name: &[u8], from: usize, count: usize, at: usize) {

@@ -18,7 +18,7 @@
 //   n name|at|width|number, v name|at|width    a number is written into eight bytes, or read out of them
 use crate::{annex, commands, edges, instructions, times};
 use console::{Fields, Runs, bytes, say};
-use packets::End;
+use packets::{Data, End};
 use script::{byte, number};
 
 #[derive(Clone, Copy)]
@@ -80,28 +80,27 @@ fn reply(mut line: Fields) {
         bytes(line.next(), &mut [0; 64]),
         byte(line.next()),
         size(line.next()),
-        bytes(line.left, &mut [0; 64]),
+        Data::Bytes(bytes(line.left, &mut [0; 64])),
     );
 }
 
 fn repeated(mut line: Fields) {
-    commands::repeated(
+    commands::reply(
         line.next(),
         bytes(line.next(), &mut [0; 64]),
         byte(line.next()),
         size(line.next()),
-        byte(line.next()),
-        count(line.next()),
+        Data::Repeated(byte(line.next()), count(line.next())),
     );
 }
 
 fn around(mut line: Fields) {
-    commands::around(
+    commands::reply(
         line.next(),
         bytes(line.next(), &mut [0; 64]),
         byte(line.next()),
         size(line.next()),
-        count(line.next()),
+        Data::InPlace(count(line.next())),
     );
 }
 

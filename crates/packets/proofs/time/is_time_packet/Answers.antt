@@ -2,24 +2,13 @@
 use mathlib.Core.Path.{◌≡◌}
 use Prim.Native.Nat.{◌+◌, ◌-◌}
 use native.Mathlib.Omega.{arith}
-use borrow.Author.Tests.{eq-eqb, ne_eqb}
+use borrow.Author.Tests.{eq-eqb}
 use lib.ListN.{length}
 use Rattle.std.proofs.Common.{rules}
 use Rattle.packets.specs.Reading.{is_eop}
 use Rattle.packets.specs.Time.{added_seconds, added_fraction}
 use Rattle.packets.proofs.TimeLaws.{zeros_worth}
 use Rattle.packets.proofs.time.is_time_packet.Goals as goal
-
-pub returns-then-p-lt12 : goal.returns-then-p-lt12
-returns-then-p-lt12 c =
-    let p = c.args.p.now in
-    rw (ne_eqb (length p) (12 + added_seconds p + added_fraction p) (λ e. omega (arith, e, c.if-p-lt12.true)))
-
-pub returns-then-p-seconds : goal.returns-then-p-seconds
-returns-then-p-seconds c =
-    let p = c.args.p.now in
-    rw (ne_eqb (length p) (12 + added_seconds p + added_fraction p)
-    (λ e. c.if-p-seconds.true (omega (arith, e, c.added_seconds-seconds.ensures, c.added_fraction.ensures))))
 
 pub returns : goal.returns
 returns c =

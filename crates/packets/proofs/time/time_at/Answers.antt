@@ -10,4 +10,4 @@ use Rattle.packets.proofs.time.time_at.Goals as goal
 pub returns : goal.returns
 returns c =
     let p = c.args.p.now in
-    rw (c.number7.ensures, c.when_of.ensures, c.added_seconds-at.ensures, div-one (get_or p 3 0), part_bytes (4 + added_seconds p) 6 p (omega arith))
+    rw (c.from_octets.ensures, c.when_of.ensures, c.added_seconds-at.ensures, div-one (get_or p 3 0), part_bytes (4 + added_seconds p) 6 p (omega arith))

@@ -14,7 +14,7 @@ returns-then-room-length c =
       sym c.wants_reply.ensures ∙ c.if-not-wants_reply.false,
       ← c.status_byte.ensures,
       ← c.reply_count.ensures,
-      ← c.reply_length-length.ensures,
+      ← c.length-length.ensures,
       lt-ltb _ _ c.if-room-length.true,
     )
 
@@ -25,6 +25,6 @@ returns c =
       sym c.wants_reply.ensures ∙ c.if-not-wants_reply.false,
       ← c.status_byte.ensures,
       ← c.reply_count.ensures,
-      ← c.reply_length-length.ensures,
+      ← c.length-length.ensures,
       le-ltb _ _ c.if-room-length.false,
     )

@@ -1,11 +1,11 @@
--- `unit::act::Reply::answer` meets its contract: the data of each action, action by action, gathered, or handed to the writer of replies.
+-- `unit::act::answer` meets its contract: the data of each action, action by action, gathered, or handed to the writer of replies.
 use Rattle.std.proofs.Common.{arith}
 use Rattle.std.proofs.lemmas.Grind.{common_steps}
 use Rattle.unit.specs.Act.{data_for}
-use Rattle.unit.proofs.act.Reply.answer.Goals as goal
+use Rattle.unit.proofs.act.answer.Goals as goal
 
-pub write_memory-requires : goal.write_memory-requires
-write_memory-requires c = grind (arith, common_steps)
+pub answer_memory-requires : goal.answer_memory-requires
+answer_memory-requires c = grind (arith, common_steps)
 
 pub byte_at-byte-requires : goal.byte_at-byte-requires
 byte_at-byte-requires c =
@@ -28,13 +28,13 @@ returns-in-ReadMemory c = grind (arith, common_steps)
 pub returns-in-RepeatByte : goal.returns-in-RepeatByte
 unfolding data_for
 returns-in-RepeatByte c =
-    rw (c.in-RepeatByte.is, ← c.byte_at-byte.ensures) c.write_repeated_reply.ensures.leaves
+    rw (c.in-RepeatByte.is, ← c.byte_at-byte.ensures) c.write-in-RepeatByte.ensures.leaves
 
 pub returns-in-ReadFields : goal.returns-in-ReadFields
 unfolding data_for
-returns-in-ReadFields c = rw (c.in-ReadFields.is, ← c.shown-bytes.ensures) c.write-in-ReadFields.ensures
+returns-in-ReadFields c = rw (c.in-ReadFields.is, ← c.shown-bytes.ensures) c.write-in-ReadFields.ensures.leaves
 
 pub returns-in-Swap : goal.returns-in-Swap
 unfolding data_for
 returns-in-Swap c =
-    rw (c.in-Swap.is, ← c.to_octets-device.ensures) c.write-in-Swap.ensures
+    rw (c.in-Swap.is, ← c.to_octets-device.ensures) c.write-in-Swap.ensures.leaves
