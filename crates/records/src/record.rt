@@ -3,6 +3,7 @@ ghost use Rattle.std.specs.Prelude.{◌≡◌, ◌+◌, ◌≤◌, true, length}
 ghost use Rattle.records.specs.Record.{body_size as Record·body_size, is_head as Record·is_head, end_of, item_of, read_record as Record·read_record, size_of};
 ghost use Rattle.records.specs.Record.{is_right as Record·is_right};
 
+use octets::Octets;
 use packets::End;
 
 // What a record asks for: a packet with its end, its link and its length, a Time-Code, or ticks.
@@ -53,7 +54,7 @@ pub fn read_record(log: &[u8]) -> Result<Item, NoRecord>
 fn body_size(head: &[u8; 7]) -> u16
     ensures { result ≡ Record·body_size head.now }
 {
-    octets::number2(head[5], head[6])
+    u16::from_octets([head[5], head[6]])
 }
 
 // Whether the mark is there, and kind, link, end and length go together.
@@ -83,7 +84,7 @@ fn item_of(log: &[u8], size: u16) -> Item
     match log[2] {
         1 => Item::Packet(end_of(log[4]), log[3], size),
         2 => Item::TimeCode(log[7]),
-        _ => Item::Ticks(octets::number4(log[7], log[8], log[9], log[10])),
+        _ => Item::Ticks(u32::from_octets([log[7], log[8], log[9], log[10]])),
     }
 }
 
