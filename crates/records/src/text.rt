@@ -105,7 +105,7 @@ impl Page<'_> {
     }
 }
 
-// Two digits for each byte, from a place of a buffer on.
+// Two digits for each byte, from a place of a buffer on. Long replies took four times as long with a `put` for each byte.
 fn write_hex(bytes: &[u8], out: &mut [u8], at: usize)
     requires { at + 2 * length bytes.now ≤ length out.old }
     ensures { out.new ≡ placed at (hexes bytes.now) out.old }
