@@ -1,7 +1,7 @@
 -- Laws of blocks of 127 bytes: modulo g(x), x^127 is 1, so that a block in front of another counts as if it lay on it, and two of them count what their sum does.
 use mathlib.Core.Path.{◌≡◌, refl, sym, ap, ap₂, ◌∙◌}
 use mathlib.Core.List.{List, [], ◌∷◌, ◌++◌, append_assoc, append-nil}
-use Prim.Native.Nat.{ℕ, zero, suc, ◌+◌, ◌-◌, ◌*◌, ◌%◌, ◌<◌, ◌≤◌}
+use Prim.Native.Nat.{ℕ, zero, suc, ◌+◌, ◌*◌, ◌%◌, ◌<◌, ◌≤◌}
 use native.Mathlib.Omega.{arith}
 use native.Mathlib.Numerals.{add-one}
 use lib.Bits.{bit_xor, xor_lt, xor_zero_r}
@@ -9,11 +9,11 @@ use lib.ListN.{length, get_or, take, drop, set, replicate, drop_of_length-le}
 use lib.Seq.{drop-cons, take-suc-set, drop-set-lt, append_snoc, take_all}
 use Rattle.octets.specs.Crc.{crc, crc_from}
 use Rattle.octets.specs.Numbers.{Digits}
-use Rattle.octets.specs.Places.{part}
 use Rattle.octets.specs.Words.{turn, turns, word_of, added, added_from}
 use Rattle.octets.proofs.CrcLaws.{crc_byte, crc_from_append, crc_from_byte}
-use Rattle.octets.proofs.NumberLaws.{digits_part}
-use Rattle.octets.proofs.PlaceLaws.{length_part, part_rest}
+use lib.Seq.{length-take-le}
+use lib.ListN.{length-drop, take-append-drop}
+use Rattle.octets.proofs.NumberLaws.{digits_take, digits_drop}
 use Rattle.octets.proofs.Linear.{itself, basis}
 use Rattle.octets.proofs.WordLaws.{turns_linear, turns_add, crc_turns, crc_word}
 use Rattle.octets.proofs.Xor.{xor_cross}
@@ -98,49 +98,50 @@ block_sum xs ys s t ex ey =
 
 -- ---- a loop over blocks: the first sum, a block more, and the end
 
--- a sum of blocks in front of what is left of the row, from i on: as many bytes as blocks have, and the CRC of the whole
-pub record Summed (whole : ℕ) (bytes sum : List ℕ) (i : ℕ) : Type 0 where
-  pub within : i ≤ length bytes
-  pub blocks : (length bytes - i) % 127 ≡ 0
+-- a sum of blocks in front of what is left of the row: as many bytes as a block has, whole blocks, and the CRC of the whole
+pub record Summed (whole : ℕ) (sum left : List ℕ) : Type 0 where
   pub size : length sum ≡ 127
-  pub digits : Digits 256 sum
-  pub goes : crc_from 0 (sum ++ drop i bytes) ≡ whole
+  pub blocks : length left % 127 ≡ 0
+  pub digits : Digits 256 sum × Digits 256 left
+  pub goes : crc_from 0 (sum ++ left) ≡ whole
 
-pub block_first : (c : ℕ) (bytes : List ℕ) → c < 256 → length bytes % 127 ≡ 0 → Summed (crc_from c bytes) bytes (c ∷ replicate 126 0) 0
+pub block_first : (c : ℕ) (bytes : List ℕ) → c < 256 → length bytes % 127 ≡ 0 → Digits 256 bytes → Summed (crc_from c bytes) (c ∷ replicate 126 0) bytes
 unfolding crc_from
-block_first c bytes h e = record {
-  within = omega arith;
-  blocks = omega arith;
+block_first c bytes h e t = record {
   size = refl;
-  digits = (h, digits_zeros 126);
+  blocks = e;
+  digits = ((h, digits_zeros 126), t);
   goes =
       crc_from_append 0 (c ∷ replicate 126 0) bytes
       ∙ ap (λ (k : ℕ). crc_from k bytes)
       (ap (λ (k : ℕ). crc_from (crc (k ∷ [])) (replicate 126 0)) (sym (xor_zero_r c)) ∙ block_on c h);
 }
 
-pub block_next : (whole : ℕ) (bytes sum : List ℕ) (i : ℕ) → Digits 256 bytes → i < length bytes
-    → Summed whole bytes sum i → Summed whole bytes (added sum (part i 127 bytes)) (i + 127)
-block_next whole bytes sum i t h s =
-    let fits : i + 127 ≤ length bytes = omega (arith, s.within, s.blocks) in
-    let block = part i 127 bytes in
-    let long : length block ≡ 127 = length_part i 127 bytes fits in
+pub block_next : (whole : ℕ) (sum left : List ℕ) → 127 ≤ length left
+    → Summed whole sum left → Summed whole (added sum (take 127 left)) (drop 127 left)
+block_next whole sum left h s =
+    let block = take 127 left in
+    let long : length block ≡ 127 = length-take-le 127 left h in
+    let t : Digits 256 block = digits_take 256 127 left s.digits.1 in
     record {
-      within = fits;
-      blocks = omega (arith, s.blocks);
       size = length_added sum block (s.size ∙ sym long) ∙ s.size;
-      digits = digits_added sum block s.digits (digits_part bytes i 127 t);
+      blocks = omega (arith, length-drop 127 left, s.blocks);
+      digits = (digits_added sum block s.digits.0 t, digits_drop 256 127 left s.digits.1);
       goes =
-          crc_from_append 0 (added sum block) (drop (i + 127) bytes)
-          ∙ ap (λ (k : ℕ). crc_from k (drop (i + 127) bytes)) (sym (block_sum sum block s.digits (digits_part bytes i 127 t) s.size long))
-          ∙ sym (crc_from_append 0 (sum ++ block) (drop (i + 127) bytes))
-          ∙ ap (crc_from 0) (append_assoc sum block (drop (i + 127) bytes) ∙ ap (λ (l : List ℕ). sum ++ l) (part_rest i 127 bytes))
+          crc_from_append 0 (added sum block) (drop 127 left)
+          ∙ ap (λ (k : ℕ). crc_from k (drop 127 left)) (sym (block_sum sum block s.digits.0 t s.size long))
+          ∙ sym (crc_from_append 0 (sum ++ block) (drop 127 left))
+          ∙ ap (crc_from 0) (append_assoc sum block (drop 127 left) ∙ ap (λ (l : List ℕ). sum ++ l) (take-append-drop 127 left))
           ∙ s.goes;
     }
 
-pub block_end : (whole : ℕ) (bytes sum : List ℕ) (i : ℕ) → length bytes ≤ i → Summed whole bytes sum i → crc_from 0 sum ≡ whole
-block_end whole bytes sum i h s =
-    ap (crc_from 0) (sym (append-nil sum) ∙ ap (λ (l : List ℕ). sum ++ l) (sym (drop_of_length-le bytes {i = i} h))) ∙ s.goes
+pub block_end : (whole : ℕ) (sum left : List ℕ) → length left < 127 → Summed whole sum left → crc_from 0 sum ≡ whole
+block_end whole sum left h s =
+    ap (crc_from 0) (sym (append-nil sum) ∙ ap (λ (l : List ℕ). sum ++ l) (sym (none left (omega (arith, s.blocks))))) ∙ s.goes
+  where
+    none : (l : List ℕ) → length l ≡ 0 → l ≡ []
+    none [] e = refl
+    none (b ∷ l) e = absurd (omega (arith, e))
 
 -- ---- a loop over the places of a block: one more, and the end
 

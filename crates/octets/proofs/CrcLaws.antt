@@ -8,12 +8,10 @@ use native.Mathlib.Decide.{ℕ_discrete}
 use borrow.Author.Tests.{eq-eqb, ne_eqb}
 use lib.Dec.{eqb}
 use lib.Bits.{bit_xor, xor_shr, xor_mod, xor_block, xor_self, xor_zero_r, xor_lt}
-use lib.ListN.{length, get_or, take, drop, replicate, drop_of_length-le, length-drop, take-append-drop}
-use lib.Seq.{drop-cons, take_all}
-use native.Mathlib.Nat.{le_of_eq}
+use lib.ListN.{length, get_or, take, drop, replicate, drop_of_length-le, take-append-drop}
+use lib.Seq.{drop-cons}
 use native.Mathlib.Numerals.{add-one}
 use Rattle.octets.specs.Crc.{with_crc, generator, modulo, remainder, bits, message, mirrored, crc, crc_from}
-use Rattle.octets.specs.Places.{part}
 use Rattle.octets.proofs.Tabulate.{same}
 use Rattle.octets.proofs.Xor.{low, xor_assoc, xor_cross, bit_times}
 
@@ -151,10 +149,9 @@ crc_from_append c (x ∷ xs) ys = crc_from_append (crc (bit_xor c x ∷ [])) xs 
 
 -- over a row in two parts
 pub crc_from_parts : (c : ℕ) (bytes : List ℕ) (n : ℕ)
-    → crc_from (crc_from c (part 0 n bytes)) (part n (length bytes - n) bytes) ≡ crc_from c bytes
+    → crc_from (crc_from c (take n bytes)) (drop n bytes) ≡ crc_from c bytes
 crc_from_parts c bytes n =
-    ap (crc_from (crc_from c (take n bytes))) (take_all (length bytes - n) (drop n bytes) (le_of_eq (length-drop n bytes)))
-    ∙ sym (crc_from_append c (take n bytes) (drop n bytes))
+    sym (crc_from_append c (take n bytes) (drop n bytes))
     ∙ ap (crc_from c) (take-append-drop n bytes)
 
 crc_zero : crc (0 ∷ []) ≡ 0

@@ -14,7 +14,7 @@ use lib.Seq.{take_all}
 use native.Mathlib.Decide.{dec_lt}
 use borrow.Author.Tests.{leb-true, le-leb, lt-ltb, le-ltb, eq-eqb, ne_eqb}
 use Rattle.octets.specs.Places.{within, part, placed, copy_fits, copied}
-use Rattle.octets.specs.declared.numbers.Number.TheVariants.{Value, Refused}
+use Rattle.std.proofs.Common.{Some, None}
 use Rattle.octets.proofs.Tabulate.{same}
 use Rattle.octets.proofs.PlaceLaws.{length_part, length_placed, part_placed, second_true, placed_if_length, placed_if_outside}
 use Rattle.octets.specs.Numbers.{worth, digits, number, bytes_of, Digits, read_number, number_fits, written}
@@ -67,12 +67,12 @@ digits_at base [] k some t = some
 digits_at base (d ∷ ds) zero some t = t.0
 digits_at base (d ∷ ds) (suc k) some t = digits_at base ds k some t.1
 
-digits_take : (base n : ℕ) (ds : List ℕ) → Digits base ds → Digits base (take n ds)
+pub digits_take : (base n : ℕ) (ds : List ℕ) → Digits base ds → Digits base (take n ds)
 digits_take base zero ds t = tt
 digits_take base (suc n) [] t = tt
 digits_take base (suc n) (d ∷ ds) t = (t.0, digits_take base n ds t.1)
 
-digits_drop : (base n : ℕ) (ds : List ℕ) → Digits base ds → Digits base (drop n ds)
+pub digits_drop : (base n : ℕ) (ds : List ℕ) → Digits base ds → Digits base (drop n ds)
 digits_drop base zero ds t = t
 digits_drop base (suc n) [] t = tt
 digits_drop base (suc n) (d ∷ ds) t = digits_drop base n ds t.1
@@ -176,7 +176,7 @@ shifted_out n width h = rw (same (λ k. 2 ^ (8 * k)) (λ k. 256 ^ k) 8 refl widt
 
 -- what was written is read: the number itself
 pub read_written : (d : List ℕ) (at width n : ℕ) → width ≤ 8 → n < 256 ^ width → at + width ≤ length d
-    → read_number (written d at width n) at width ≡ Value n
+    → read_number (written d at width n) at width ≡ Some n
 unfolding read_number written
 read_written d at width n small fits there =
     let p = bytes_of width n in
@@ -185,7 +185,7 @@ read_written d at width n small fits there =
     let kept : length (placed at p d) ≡ length d = length_placed at p d room in
     let back : part at width (placed at p d) ≡ p = ap (λ (k : ℕ). part at k (placed at p d)) (sym l) ∙ part_placed at p d room in
     rw (le-leb width 8 small, lt-ltb n (256 ^ width) fits, le-leb (at + width) (length d) there, kept, le-leb (at + width) (length d) there)
-    (ap Value (ap number back ∙ number_bytes width n fits))
+    (ap Some (ap number back ∙ number_bytes width n fits))
 
 -- ---- a part of s, copied to the end of eight zeros, read as a number; and of eight bytes the lowest, copied out
 
@@ -194,18 +194,18 @@ module _ (s : List ℕ) (at width : ℕ) (small : width ≤ 8) where
   copy_in_fits = rw (le-leb (8 - width + width) 8 (omega arith)) (and-true (within at width s))
 
   -- `did` is what the copy answered
-  pub read_refused : {did : Bool} → did ≡ copy_fits s at width (replicate 8 zero) (8 - width) → did ≡ false → Refused ≡ read_number s at width
+  pub read_refused : {did : Bool} → did ≡ copy_fits s at width (replicate 8 zero) (8 - width) → did ≡ false → None ≡ read_number s at width
   unfolding read_number
   read_refused p e = rw (le-leb width 8 small, sym copy_in_fits ∙ sym p ∙ e)
 
   pub read_copied : {did : Bool} → did ≡ copy_fits s at width (replicate 8 zero) (8 - width) → did ≡ true
-      → Value (number (copied s at width (replicate 8 zero) (8 - width))) ≡ read_number s at width
+      → Some (number (copied s at width (replicate 8 zero) (8 - width))) ≡ read_number s at width
   unfolding read_number copied
   read_copied p e =
       let there : within at width s ≡ true = sym copy_in_fits ∙ sym p ∙ e in
       let l : length (part at width s) ≡ width = length_part at width s (leb-true (at + width) (length s) there) in
       rw (le-leb width 8 small, there, le-leb (8 - width + width) 8 (omega arith))
-      (ap Value (ap (λ (k : ℕ). number (placed (8 - k) (part at width s) (replicate 8 zero))) (sym l)
+      (ap Some (ap (λ (k : ℕ). number (placed (8 - k) (part at width s) (replicate 8 zero))) (sym l)
       ∙ worth_padded 256 8 (part at width s) (omega arith)))
 
 module _ (d : List ℕ) (at width n : ℕ) (small : width ≤ 8) (fits : ltb n (256 ^ width) ≡ true) where
@@ -224,6 +224,10 @@ module _ (d : List ℕ) (at width n : ℕ) (small : width ≤ 8) (fits : ltb n (
 
   pub write_copied : {e b : List ℕ} → b ≡ bytes_of 8 n → e ≡ copied b (8 - width) width d at → e ≡ written d at width n
   write_copied p q = q ∙ rw p copy_out
+
+pub written_not : (d : List ℕ) (at width n : ℕ) → false ≡ number_fits d at width n → d ≡ written d at width n
+unfolding written
+written_not d at width n e = rw (sym e)
 
 -- ---- a write keeps the length, and every byte outside its places
 

@@ -3,14 +3,18 @@ use mathlib.Core.Path.{◌≡◌, refl, sym, ap, ap₂, ◌∙◌}
 use mathlib.Core.Bool.{Bool, true, false, cond, ◌&&◌, ◌||◌, false≢true}
 use mathlib.Core.Logic.{◌⊎◌, inl, inr, ⊎_elim}
 use mathlib.Core.List.{List, [], ◌∷◌, ◌++◌, append_assoc, append-nil}
-use Prim.Native.Nat.{ℕ, suc, ◌+◌, ◌-◌, ◌<◌, ◌≤◌, min}
+use Prim.Native.Nat.{ℕ, zero, suc, ◌+◌, ◌-◌, ◌*◌, ◌/◌, ◌<◌, ◌≤◌, min}
 use native.Mathlib.Omega.{arith}
 use native.Mathlib.Decide.{dec_le}
-use native.Mathlib.Nat.{lt_of_not-le, add_assoc, add-zero, zero-add}
+use native.Mathlib.Nat.{lt_of_not-le, add_assoc, add-zero, zero-add, zero-mul}
 use native.Mathlib.Numerals.{add-one}
 use borrow.Author.Tests.{leb-true, le-leb, lt-leb}
 use lib.Dec.{leb}
 use lib.ListN.{length, get_or, set, take, drop, replicate, length-replicate, length-append, length-take, length-drop, take-append-drop, drop_of_length-le, get_or-append}
+use borrow.Rule.Slice.PartMut.{put_mid}
+use Rattle.std.proofs.lemmas.Slice.{put_mid-paste}
+use Rattle.std.specs.List.{copy_within}
+use Rattle.std.specs.Simd.{first_chunks}
 use lib.Seq.{ext_get_or, paste, paste-suc, drop-set-lt, take_all, take-add, take-append_seam, take-append-le, take-append-add, drop-append_seam, drop-append-le, drop-append-add, length-take-le, take-length, take_at, drop_at, drop-drop, get_or-take, get_or-drop, get_or-append-add}
 use Rattle.octets.proofs.Tabulate.{tabulate, length_tabulate}
 use Rattle.octets.proofs.Tabulate.{at as at_place}
@@ -273,6 +277,10 @@ module _ (s : List ℕ) (from count : ℕ) (d : List ℕ) (at : ℕ) where
   unfolding copied
   copied_done h k = rw (le-leb (from + count) (length s) h, le-leb (at + count) (length d) k)
 
+  pub copied_not : false ≡ copy_fits s from count d at → d ≡ copied s from count d at
+  unfolding copied
+  copied_not e = rw (sym e)
+
   pub copied_none : count ≡ 0 → copied s from count d at ≡ d
   unfolding copied
   copied_none e = placed_if_none at (part from count s) d (copy_fits s from count d at) (ap (λ (n : ℕ). take n (drop from s)) e)
@@ -303,6 +311,10 @@ module _ (d : List ℕ) (at count b : ℕ) where
   unfolding filled
   filled_done h = rw (le-leb (at + count) (length d) h)
 
+  pub filled_not : false ≡ within at count d → d ≡ filled d at count b
+  unfolding filled
+  filled_not e = rw (sym e)
+
   pub filled_none : count ≡ 0 → filled d at count b ≡ d
   unfolding filled
   filled_none e = placed_if_none at (replicate count b) d (within at count d) (ap (λ (n : ℕ). replicate n b) e)
@@ -322,3 +334,40 @@ module _ (d : List ℕ) (at count b : ℕ) where
   filled_outside i o =
       placed_if_outside at (replicate count b) d (within at count d) fill_room i
       (⊎_elim (λ l. inl l) (λ g. inr (simp length-replicate g)) o)
+
+-- ---- what a method of the library leaves of bytes whose part it was given
+
+-- of the part from `at` up to `at + count`
+pub put_placed : (at count : ℕ) (p d : List ℕ) → length p ≡ count → put_mid at (at + count - at) d p ≡ placed at p d
+put_placed at count p d e = put_mid-paste at (at + count - at) d p p (length p) refl (omega (arith, e)) refl ∙ pasted d at p (length p) refl
+
+pub length_middle : (at count : ℕ) (d : List ℕ) → at + count ≤ length d → length (take (at + count - at) (drop at d)) ≡ count
+length_middle at count d h = length-take-le (at + count - at) (drop at d) (omega (arith, length-drop at d)) ∙ omega arith
+
+-- of a move to the start
+pub move_placed : (from count : ℕ) (d : List ℕ) → from + count ≤ length d → copy_within d from (from + count) 0 ≡ placed 0 (part from count d) d
+move_placed from count d h =
+    let long : length (part from count d) ≡ count = length_part from count d h in
+    let count_is : from + count - from ≡ count = omega arith in
+    ap (λ (n : ℕ). paste d 0 (drop from d) n) count_is ∙ ap (λ (n : ℕ). take 0 d ++ (part from count d ++ drop (0 + n) d)) (sym long)
+
+-- a chunk of n bytes, of those that a row is cut into, is a part of the row
+pub chunk_part : (n count : ℕ) (s : List ℕ) (k : ℕ) → k < count → get_or (first_chunks n count s) k [] ≡ part (k * n) n s
+chunk_part n zero s k h = absurd (omega arith)
+chunk_part n (suc count) s zero h = ap (λ (from : ℕ). take n (drop from s)) (sym (zero-mul n))
+chunk_part n (suc count) s (suc k) h =
+    let on : n + k * n ≡ suc k * n = omega arith in
+    chunk_part n count (drop n s) k (omega arith) ∙ ap (take n) (drop-drop (k * n) n s ∙ ap (λ (from : ℕ). drop from s) on)
+
+pub length_rest : (from : ℕ) (s : List ℕ) → from ≤ length s → length (part from (length s - from) s) ≡ length s - from
+length_rest from s h = length_part from (length s - from) s (omega arith)
+
+-- and so is one of those that what comes behind the first `from` bytes is cut into
+pub chunk_rest : (n from : ℕ) (s : List ℕ) (rows : List (List ℕ)) (k : ℕ) → rows ≡ first_chunks n (length (part from (length s - from) s) / n) (part from (length s - from) s)
+    → k < (length s - from) / n → get_or rows k [] ≡ part (from + k * n) n s
+chunk_rest n from s rows k e h =
+    let long : length (drop from s) ≡ length s - from = length-drop from s in
+    let rest : part from (length s - from) s ≡ drop from s = take_all (length s - from) (drop from s) (omega (arith, long)) in
+    ap (λ (l : List (List ℕ)). get_or l k []) (e ∙ ap (λ (l : List ℕ). first_chunks n (length l / n) l) rest)
+    ∙ chunk_part n (length (drop from s) / n) (drop from s) k (rw long h)
+    ∙ ap (take n) (drop-drop (k * n) from s)

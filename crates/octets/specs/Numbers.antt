@@ -1,8 +1,6 @@
 -- Numbers in bytes, most significant byte first (document 01, 'Reading a packet' and 'Time'; 001, 5.1.8 c, 5.1.10 b, 5.1.11 b).
-use Rattle.std.specs.Prelude.{List, [], ◌∷◌, Bool, cond, ◌&&◌, ℕ, zero, suc, ◌+◌, ◌*◌, ◌/◌, ◌%◌, ◌^◌, ◌<◌, leb, ltb, length}
+use Rattle.std.specs.Prelude.{List, [], ◌∷◌, Bool, cond, Option, Some, None, ◌&&◌, ℕ, zero, suc, ◌+◌, ◌*◌, ◌/◌, ◌%◌, ◌^◌, ◌<◌, leb, ltb, length}
 use Rattle.octets.specs.Places.{within, part, placed}
-use Rattle.octets.specs.declared.numbers.Number.{Number}
-use Rattle.octets.specs.declared.numbers.Number.TheVariants.{Value, Refused}
 
 -- What digits are worth in a base: each weighs the base to the power of how many come after it.
 abbrev pub worth : ℕ → List ℕ → ℕ
@@ -27,9 +25,9 @@ number bytes = worth 256 bytes
 abbrev pub bytes_of : ℕ → ℕ → List ℕ
 bytes_of width n = digits 256 width n
 
--- What stands at `at` as a number of `width` bytes: refused where not all of them are there, or where they are over eight.
-unfoldable pub read_number : List ℕ → ℕ → ℕ → Number
-read_number s at width = cond (leb width 8 && within at width s) (Value (number (part at width s))) Refused
+-- What stands at `at` as a number of `width` bytes: none where not all of them are there, or where they are over eight.
+unfoldable pub read_number : List ℕ → ℕ → ℕ → Option ℕ
+read_number s at width = cond (leb width 8 && within at width s) (Some (number (part at width s))) None
 
 -- n can be written at `at` in `width` bytes: they are at most eight, n is below 256^width, and the places are there.
 abbrev pub number_fits : List ℕ → ℕ → ℕ → ℕ → Bool

@@ -8,13 +8,10 @@ pub fn copy_part(src: &[u8], from: usize, count: usize, dst: &mut [u8], at: usiz
     ensures answers { result ≡ copy_fits src.now from count dst.old at }
     ensures leaves { dst.new ≡ copied src.now from count dst.old at }
 {
-    if !within(src, from, count) {
+    if !within(src, from, count) || !within(dst, at, count) {
         return false;
     }
-    if !within(dst, at, count) {
-        return false;
-    }
-    copy(src, from, count, dst, at);
+    dst[at..at + count].copy_from_slice(&src[from..from + count]);
     true
 }
 
@@ -26,7 +23,7 @@ pub fn fill(dst: &mut [u8], at: usize, count: usize, byte: u8) -> bool
     if !within(dst, at, count) {
         return false;
     }
-    repeat(dst, at, count, byte);
+    dst[at..at + count].fill(byte);
     true
 }
 
@@ -38,7 +35,7 @@ pub fn move_to_start(s: &mut [u8], from: usize, count: usize) -> bool
     if !within(s, from, count) {
         return false;
     }
-    move_down(s, from, count);
+    s.copy_within(from..from + count, 0);
     true
 }
 
@@ -46,44 +43,5 @@ pub fn move_to_start(s: &mut [u8], from: usize, count: usize) -> bool
 fn within(s: &[u8], at: usize, count: usize) -> bool
     ensures { result ≡ Places·within at count s.now }
 {
-    if s.len() < at {
-        return false;
-    }
-    count <= s.len() - at
-}
-
-// The loop of copy_part, over places that are there.
-fn copy(src: &[u8], from: usize, count: usize, dst: &mut [u8], at: usize)
-    requires { (from + count ≤ length src.now) × (at + count ≤ length dst.old) }
-    ensures { dst.new ≡ placed at (part from count src.now) dst.old }
-{
-    let mut i = 0;
-    while i < count {
-        dst[at + i] = src[from + i];
-        i += 1;
-    }
-}
-
-// The loop of move_to_start, over places that are there. A byte is read before one is put in its place.
-fn move_down(s: &mut [u8], from: usize, count: usize)
-    requires { from + count ≤ length s.old }
-    ensures { s.new ≡ placed 0 (part from count s.old) s.old }
-{
-    let mut to = 0;
-    while to < count {
-        s[to] = s[from + to];
-        to += 1;
-    }
-}
-
-// The loop of fill, over places that are there.
-fn repeat(dst: &mut [u8], at: usize, count: usize, byte: u8)
-    requires { at + count ≤ length dst.old }
-    ensures { dst.new ≡ placed at (replicate count byte) dst.old }
-{
-    let mut done = 0;
-    while done < count {
-        dst[at + done] = byte;
-        done += 1;
-    }
+    at <= s.len() && count <= s.len() - at
 }

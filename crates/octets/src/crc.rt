@@ -27,8 +27,7 @@ pub fn crc_from(running: u8, bytes: &[u8]) -> u8
         return by_words(running, bytes);
     }
     // What is no whole block comes first, and is at least a word.
-    let first = (size - 8) % 127 + 8;
-    let so_far = by_words(running, &bytes[0..first]);
-    let sum = sum_of_blocks(so_far, &bytes[first..size]);
+    let (front, blocks) = bytes.split_at((size - 8) % 127 + 8);
+    let sum = sum_of_blocks(by_words(running, front), blocks);
     by_words(0, &sum)
 }

@@ -4,25 +4,18 @@ ghost use Rattle.octets.specs.Numbers.{number, bytes_of, read_number as Numbers�
 
 use crate::copies::copy_part;
 
-// What stands at a place: a number, or nothing that could be answered.
-#[derive(Clone, Copy)]
-pub enum Number {
-    Value(u64),
-    Refused,
-}
-
-// Reads the number of `width` bytes at `at`. Refused if not all of them are there, or if they are over eight.
-pub fn read_number(s: &[u8], at: usize, width: usize) -> Number
+// Reads the number of `width` bytes at `at`. None if not all of them are there, or if they are over eight.
+pub fn read_number(s: &[u8], at: usize, width: usize) -> Option<u64>
     ensures { result ≡ Numbers·read_number s.now at width }
 {
     if 8 < width {
-        return Number::Refused;
+        return None;
     }
-    let mut bytes = [0u8; 8];
+    let mut bytes = [0; 8];
     if !copy_part(s, at, width, &mut bytes, 8 - width) {
-        return Number::Refused;
+        return None;
     }
-    Number::Value(number8(bytes))
+    Some(u64::from_octets(bytes))
 }
 
 // Writes n as `width` bytes at `at`, all or nothing. True if it did: they are at most eight, n is below 256^width, and the
@@ -31,13 +24,10 @@ pub fn write_number(dst: &mut [u8], at: usize, width: usize, n: u64) -> bool
     ensures answers { result ≡ number_fits dst.old at width n }
     ensures leaves { dst.new ≡ written dst.old at width n }
 {
-    if 8 < width {
+    if 8 < width || !fits_width(n, width) {
         return false;
     }
-    if !fits_width(n, width) {
-        return false;
-    }
-    let bytes = bytes8(n);
+    let bytes: [u8; 8] = n.to_octets();
     copy_part(&bytes, 8 - width, width, dst, at)
 }
 
@@ -63,14 +53,7 @@ pub fn number4(a: u8, b: u8, c: u8, d: u8) -> u32
 pub fn number7(a: u8, b: u8, c: u8, d: u8, e: u8, f: u8, g: u8) -> u64
     ensures { result ≡ number (a ∷ b ∷ c ∷ d ∷ e ∷ f ∷ g ∷ []) }
 {
-    number8([0, a, b, c, d, e, f, g])
-}
-
-pub(crate) fn number8(b: [u8; 8]) -> u64
-    ensures { result ≡ number b }
-{
-    let high = number4(b[0], b[1], b[2], b[3]) as u64;
-    high * 0x1_0000_0000 + number4(b[4], b[5], b[6], b[7]) as u64
+    u64::from_octets([a, b, c, d, e, f, g])
 }
 
 // The lowest bytes of a number: two, three, four or seven of them, each by its shift. What is above them is dropped.
@@ -115,30 +98,12 @@ pub fn bytes7(n: u64) -> [u8; 7]
     ]
 }
 
-fn bytes8(n: u64) -> [u8; 8]
-    ensures { result ≡ bytes_of 8 n }
-{
-    [
-        ((n >> 56) % 256) as u8,
-        ((n >> 48) % 256) as u8,
-        ((n >> 40) % 256) as u8,
-        ((n >> 32) % 256) as u8,
-        ((n >> 24) % 256) as u8,
-        ((n >> 16) % 256) as u8,
-        ((n >> 8) % 256) as u8,
-        ((n >> 0) % 256) as u8,
-    ]
-}
-
 // Whether n is below 256^width.
 fn fits_width(n: u64, width: usize) -> bool
     requires { width ≤ 8 }
     ensures { result ≡ ltb n (256 ^ width) }
 {
-    if width == 8 {
-        return true;
-    }
-    n >> (8 * width) == 0
+    width == 8 || n >> (8 * width) == 0
 }
 
 // Numbers of N bytes: a type is one for each N of which it holds all numbers, and is named by it.

@@ -9,10 +9,8 @@ pub(crate) fn by_table(running: u8, bytes: &[u8]) -> u8
     // Once for all bytes: a constant is copied to the stack where it is borrowed.
     let table = &TABLE;
     let mut c = running;
-    let mut i = 0;
-    while i < bytes.len() {
-        c = table[(c ^ bytes[i]) as usize];
-        i += 1;
+    for byte in bytes {
+        c = table[(c ^ *byte) as usize];
     }
     c
 }

@@ -1,12 +1,9 @@
 // The CRC eight bytes at a time. A word's bits are the coefficients of a polynomial as they are sent: the lowest bit is that of the highest power. So times x is a
 // shift down, and what it shifts out comes in again by a few shifts more, since modulo g(x), where x^127 is 1,
 // x^128 = x, x^64 = 1 + x + x^4, x^32 = x + x^2 + x^4, x^16 = 1 + x^2 + x^4 and x^8 = 1 + x + x^2.
-ghost use Rattle.std.specs.Prelude.{◌≡◌, ◌+◌, ◌≤◌, length};
+ghost use Rattle.std.specs.Prelude.{◌≡◌, ◌≤◌, length};
 ghost use Rattle.octets.specs.Crc.{crc_from};
-ghost use Rattle.octets.specs.Places.{part};
 ghost use Rattle.octets.specs.Words.{crc_of_two, word_of};
-
-use crate::numbers::number8;
 
 // The first one to eight bytes are one word, so that eight go into each that follows. Two words are kept, and are one polynomial of 128 coefficients. For a word more they are
 // multiplied by x^64: the lower takes the upper's place, and the upper, times x^128 = x, the lower's; the bit that this shifts out of it belongs to the new upper word.
@@ -14,35 +11,24 @@ pub(crate) fn by_words(running: u8, bytes: &[u8]) -> u8
     requires { 8 ≤ length bytes.now }
     ensures { result ≡ crc_from running bytes.now }
 {
-    let size = bytes.len();
-    let first = (size - 1) % 8 + 1;
+    let first = (bytes.len() - 1) % 8 + 1;
+    let (front, _) = bytes.as_chunks::<8>();
     let mut upper = 0;
-    let mut lower = (word_at(bytes, 0) ^ running as u64) << (64 - 8 * first);
-    let mut left = size - first;
-    while 0 < left {
-        let next = word_at(bytes, size - left) ^ (upper >> 1);
+    let mut lower = (word(front[0]) ^ running as u64) << (64 - 8 * first);
+    let (words, _) = bytes[first..].as_chunks::<8>();
+    for eight in words {
+        let next = word(*eight) ^ (upper >> 1);
         upper = lower ^ (upper << 63);
         lower = next;
-        left -= 8;
     }
     reduced(upper, lower)
 }
 
 // Eight bytes as one number, the first of them lowest.
-fn word_at(s: &[u8], at: usize) -> u64
-    requires { at + 8 ≤ length s.now }
-    ensures { result ≡ word_of (part at 8 s.now) }
+fn word(bytes: [u8; 8]) -> u64
+    ensures { result ≡ word_of bytes }
 {
-    number8([
-        s[at + 7],
-        s[at + 6],
-        s[at + 5],
-        s[at + 4],
-        s[at + 3],
-        s[at + 2],
-        s[at + 1],
-        s[at],
-    ])
+    u64::from_le_bytes(bytes)
 }
 
 // The remainder of two words, times x^8: from 128 bits to 64, 36, 24, 16, 12 and 8. A polynomial of n coefficients lies in the lowest n bits, that of 1 the highest of

@@ -2,14 +2,16 @@
 use mathlib.Core.Path.{◌≡◌, refl, sym, ap, ap₂, ◌∙◌}
 use mathlib.Core.Bool.{Bool, true, false, cond}
 use mathlib.Core.List.{List, [], ◌∷◌, ◌++◌, map}
-use Prim.Native.Nat.{ℕ, suc, ◌+◌, ◌-◌, ◌*◌, ◌%◌, ◌^◌, ◌<◌, ◌≤◌}
+use Prim.Native.Nat.{ℕ, zero, suc, ◌+◌, ◌-◌, ◌*◌, ◌%◌, ◌^◌, ◌<◌, ◌≤◌}
 use native.Mathlib.Omega.{arith}
 use native.Mathlib.Nat.{add-zero, zero-add, mul_assoc, pow-succ'}
 use native.Mathlib.Numerals.{add-one}
 use borrow.Author.Tests.{eq-eqb, ne_eqb}
 use lib.Dec.{ltb}
 use lib.ListN.{length, get_or, set, take, drop, length-append, length-map, length-take, length-drop}
-use lib.Seq.{paste, paste-suc, drop-cons, take-suc, drop-drop, get_or-drop}
+use Rattle.std.proofs.Common.{fold}
+use Rattle.std.proofs.lemmas.List.Sums.{fold-append}
+use lib.Seq.{take_all, take-length, paste, paste-suc, take-suc, drop-drop, get_or-drop}
 use Rattle.octets.specs.Places.{placed}
 use Rattle.octets.specs.Numbers.{worth}
 use Rattle.octets.proofs.PlaceLaws.{take_min}
@@ -47,42 +49,52 @@ worth_more (b ∷ s) c =
     length-map (s ++ (c ∷ [])) digit_of ∙ length-append s (c ∷ []) ∙ add-one (length s) ∙ ap suc (sym (length-map s digit_of)) in
     rw (long, pow-succ', ← mul_assoc) (omega arith)
 
-pub number_next : (s : List ℕ) (i : ℕ) → i < length s → number_in (take i s) % 2 ^ 60 * 16 + digit_of (get_or s i 0) ≡ number_in (take (suc i) s)
+-- a digit behind a number, as far as 64 bits hold it
+abbrev pub onto : ℕ → ℕ → ℕ
+onto n c = n % 2 ^ 60 * 16 + digit_of c
+
+number_next : (s : List ℕ) (i : ℕ) → i < length s → onto (number_in (take i s)) (get_or s i 0) ≡ number_in (take (suc i) s)
 unfolding number_in
 number_next s i h =
     let more = worth_more (take i s) (get_or s i 0) in
     let small = digit_small (get_or s i 0) in
     rw (take-suc s i 0 h, more) (omega arith)
 
--- ---- bytes from a place on
+number_folds : (s : List ℕ) (i : ℕ) → i ≤ length s → fold onto 0 (take i s) ≡ number_in (take i s)
+unfolding number_in
+number_folds s zero h = refl
+number_folds s (suc i) h =
+    ap (fold onto 0) (take-suc s i 0 (omega arith))
+    ∙ fold-append onto 0 (take i s) (get_or s i 0 ∷ [])
+    ∙ ap (λ (n : ℕ). onto n (get_or s i 0)) (number_folds s i (omega arith))
+    ∙ number_next s i (omega arith)
 
-few : (l : List ℕ) → length l ≤ 1 → bytes_in l ≡ []
-unfolding bytes_in
-few [] h = refl
-few (a ∷ []) h = refl
-few (a ∷ b ∷ l) h = absurd (omega arith)
+-- so the number that digits say is each put behind those before it
+pub number_fold : (s : List ℕ) → fold onto 0 s ≡ number_in s
+number_fold s = rw (take-length s) at (number_folds s (length s) (omega arith))
+
+-- ---- the first bytes of what is left
 
 -- fewer than two digits are left
-pub bytes_end : (s : List ℕ) (i : ℕ) → length s - i ≤ 1 → bytes_in (drop i s) ≡ []
-bytes_end s i h = few (drop i s) (simp length-drop h)
+pub bytes_end : (l : List ℕ) → length l < 2 → bytes_in l ≡ []
+unfolding bytes_in
+bytes_end [] h = refl
+bytes_end (a ∷ []) h = refl
+bytes_end (a ∷ b ∷ l) h = absurd (omega arith)
 
 -- two bytes are left at least: the first is a space, or both are digits
-module _ (s : List ℕ) (i : ℕ) (h : 1 < length s - i) where
-  first : drop i s ≡ get_or s i 0 ∷ drop (i + 1) s
-  first = drop-cons s i 0 (omega arith) ∙ ap (λ (k : ℕ). get_or s i 0 ∷ drop k s) (sym (add-one i))
+pub bytes_space : (l : List ℕ) → 2 ≤ length l → get_or l 0 0 ≡ space → bytes_in l ≡ bytes_in (take (length l - 1) (drop 1 l))
+unfolding bytes_in
+bytes_space [] h e = absurd (omega arith)
+bytes_space (a ∷ []) h e = absurd (omega arith)
+bytes_space (a ∷ b ∷ l) h e = rw (take_all (length (a ∷ b ∷ l) - 1) (b ∷ l) (omega arith), eq-eqb a space e) refl
 
-  second : drop (i + 1) s ≡ get_or s (i + 1) 0 ∷ drop (i + 2) s
-  second =
-      let e : suc (i + 1) ≡ i + 2 = omega arith in
-      drop-cons s (i + 1) 0 (omega arith) ∙ ap (λ (k : ℕ). get_or s (i + 1) 0 ∷ drop k s) e
-
-  pub bytes_space : get_or s i 0 ≡ space → bytes_in (drop i s) ≡ bytes_in (drop (i + 1) s)
-  unfolding bytes_in
-  bytes_space e = rw (first, second, eq-eqb (get_or s i 0) space e)
-
-  pub bytes_pair : (get_or s i 0 ≡ space → ⊥) → bytes_in (drop i s) ≡ pair_of (get_or s i 0) (get_or s (i + 1) 0) ∷ bytes_in (drop (i + 2) s)
-  unfolding bytes_in
-  bytes_pair e = rw (first, second, ne_eqb (get_or s i 0) space e)
+pub bytes_pair : (l : List ℕ) → 2 ≤ length l → (get_or l 0 0 ≡ space → ⊥)
+    → bytes_in l ≡ pair_of (get_or l 0 0) (get_or l 1 0) ∷ bytes_in (take (length l - 2) (drop 2 l))
+unfolding bytes_in
+bytes_pair [] h e = absurd (omega arith)
+bytes_pair (a ∷ []) h e = absurd (omega arith)
+bytes_pair (a ∷ b ∷ l) h e = rw (take_all (length (a ∷ b ∷ l) - 2) l (omega arith), ne_eqb a space e) refl
 
 -- ---- one byte after the other
 

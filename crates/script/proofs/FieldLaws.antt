@@ -1,14 +1,19 @@
 -- Laws of lines and fields: what stands before a byte is a first part, and how it goes on from a place of a list.
 use mathlib.Core.Path.{◌≡◌, refl, ap}
 use mathlib.Core.Bool.{Bool, true, false, cond}
-use mathlib.Core.List.{List, [], ◌∷◌, reverse, reverse-append}
-use Prim.Native.Nat.{ℕ, suc, ◌<◌, ◌≤◌}
+use mathlib.Core.List.{List, [], ◌∷◌, reverse}
+use Prim.Native.Nat.{ℕ, ◌+◌, ◌<◌, ◌≤◌}
 use native.Mathlib.Omega.{arith}
-use borrow.Author.Tests.{eq-eqb, ne_eqb}
-use lib.Dec.{eqb}
-use lib.ListN.{length, get_or, take, drop, drop_of_length-le}
-use lib.Seq.{drop-cons, take-suc, length-take-le}
-use Rattle.script.specs.Fields.{up_to, line_end, field_of, rest_of, whole_lines, runnable}
+use borrow.Author.Tests.{lt-ltb, le-ltb}
+use Rattle.std.proofs.Common.{◌==◌, position, unwrap_or, Option, Some, None, sym, ◌∙◌}
+use Rattle.std.proofs.lemmas.List.{length-reverse}
+use Rattle.std.specs.List.{position_or_len}
+use Rattle.std.proofs.lemmas.List.Recursion.{is_position_or_len}
+use lib.Dec.{eqb, ltb}
+use native.Mathlib.Decide.{dec_lt}
+use native.Mathlib.Nat.{lt_of_not-le}
+use lib.ListN.{length-take, length, take}
+use Rattle.script.specs.Fields.{up_to, field_of, rest_of, whole_lines, runnable}
 
 -- `a|b` is the field `a` with `b` behind it; of `a`, a line end and `b`, two bytes are whole lines
 pub a_field : field_of (0x61 ∷ 0x7c ∷ 0x62 ∷ []) ≡ 0x61 ∷ []
@@ -37,30 +42,28 @@ up_to_take stop (b ∷ s) = go (eqb b stop) (up_to_take stop s)
     go true e = refl
     go false e = ap (λ (l : List ℕ). b ∷ l) e
 
--- from a place on: the byte stands there, or it does not, or the list ends
-module _ (stop : ℕ) (s : List ℕ) (i : ℕ) where
-  pub up_to_here : i < length s → get_or s i 0 ≡ stop → up_to stop (drop i s) ≡ []
-  unfolding up_to
-  up_to_here h e = rw (drop-cons s i 0 h, eq-eqb (get_or s i 0) stop e)
+up_to_size : (stop : ℕ) (s : List ℕ) → length (up_to stop s) ≤ length s
+up_to_size stop s = let e = simp length-take at (ap length (up_to_take stop s)) in omega (arith, e)
 
-  pub up_to_next : i < length s → (get_or s i 0 ≡ stop → ⊥) → length (up_to stop (drop i s)) ≡ suc (length (up_to stop (drop (suc i) s)))
-  unfolding up_to
-  up_to_next h e = rw (drop-cons s i 0 h, ne_eqb (get_or s i 0) stop e)
+-- it is as long as the place of the first such byte says, or all where there is none
+up_to_place : (stop : ℕ) (s : List ℕ) → length (up_to stop s) ≡ position_or_len (λ b. b == stop) s
+unfolding up_to
+up_to_place stop = is_position_or_len (λ l. length (up_to stop l)) (λ b. b == stop) refl (λ b s. more (up_to stop s) b (b == stop))
+  where
+    more : (l : List ℕ) (b : ℕ) (t : Bool) → length (cond t [] (b ∷ l)) ≡ cond t 0 (1 + length l)
+    more l b true = refl
+    more l b false = omega arith
 
-  pub up_to_end : length s ≤ i → up_to stop (drop i s) ≡ []
-  unfolding up_to
-  up_to_end h = rw (drop_of_length-le s {i = i} h)
+pub up_to_position : (stop : ℕ) (s : List ℕ) → unwrap_or (position (λ b. b == stop) s) (length s) ≡ length (up_to stop s)
+up_to_position stop s = rw (← up_to_place stop s) (go (dec_lt (length (up_to stop s)) (length s)))
+  where
+    go : Dec (length (up_to stop s) < length s) → unwrap_or (cond (ltb (length (up_to stop s)) (length s)) (Some (length (up_to stop s))) None) (length s) ≡ length (up_to stop s)
+    go (yes l) = rw (lt-ltb _ _ l) refl
+    go (no g) = let e : length s ≤ length (up_to stop s) = omega (arith, lt_of_not-le g) in rw (le-ltb _ _ e) (omega (arith, up_to_size stop s))
 
--- from the back: the first n bytes end in a line end, or they do not
-module _ (s : List ℕ) (k n : ℕ) (is : n ≡ suc k) (h : k < length s) where
-  turned : reverse (take n s) ≡ get_or s k 0 ∷ reverse (take k s)
-  turned = rw (is, take-suc s k 0 h) (reverse-append (take k s) (get_or s k 0 ∷ []))
+-- as `unwrap_or` reads it, where it is looked for and where it was found
+pub size_from_place : (stop : ℕ) (s : List ℕ) (at : Option ℕ) → at ≡ position (λ b. b == stop) s → unwrap_or at (length s) ≡ length (up_to stop s)
+size_from_place stop s at e = ap (λ (o : Option ℕ). unwrap_or o (length s)) e ∙ up_to_position stop s
 
-  pub whole_here : get_or s k 0 ≡ line_end → whole_lines (take n s) ≡ n
-  unfolding up_to
-  whole_here e = rw (turned, eq-eqb (get_or s k 0) line_end e, length-take-le n s (omega arith)) (omega arith)
-
-  pub whole_next : (get_or s k 0 ≡ line_end → ⊥) → whole_lines (take n s) ≡ whole_lines (take k s)
-  unfolding up_to
-  whole_next e =
-      rw (turned, ne_eqb (get_or s k 0) line_end e, length-take-le n s (omega arith), length-take-le k s (omega arith)) (omega arith)
+pub size_from_back : (stop : ℕ) (s : List ℕ) (at : Option ℕ) → at ≡ position (λ b. b == stop) (reverse s) → unwrap_or at (length s) ≡ length (up_to stop (reverse s))
+size_from_back stop s at e = ap (λ (n : ℕ). unwrap_or at n) (sym (length-reverse s)) ∙ size_from_place stop (reverse s) at e

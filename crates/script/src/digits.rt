@@ -10,7 +10,7 @@ use crate::fields;
 pub fn number(s: &[u8]) -> u64
     ensures { result ≡ number_in (field_of s.now) }
 {
-    value(fields::field(s))
+    fields::field(s).iter().fold(0, |n, c| onto(n, *c))
 }
 
 // Its lowest byte.
@@ -27,32 +27,19 @@ pub fn bytes(s: &[u8], out: &mut [u8]) -> usize
     ensures inside { result ≤ length out.new }
     ensures leaves { out.new ≡ placed 0 (take (length out.old) (bytes_in s.now)) out.old }
 {
-    let mut i = 0;
+    let mut left = s;
     let mut n = 0;
-    while 1 < s.len() - i {
-        if s[i] == b' ' {
-            i += 1;
+    while let [a, b, more @ ..] = left {
+        if *a == b' ' {
+            left = &left[1..];
         } else {
             if out.len() <= n {
                 return n;
             }
-            out[n] = pair(s[i], s[i + 1]);
+            out[n] = pair(*a, *b);
             n += 1;
-            i += 2;
+            left = more;
         }
-    }
-    n
-}
-
-// The loop of number, over its digits.
-fn value(s: &[u8]) -> u64
-    ensures { result ≡ number_in s.now }
-{
-    let mut n = 0;
-    let mut i = 0;
-    while i < s.len() {
-        n = onto(n, s[i]);
-        i += 1;
     }
     n
 }
@@ -75,7 +62,8 @@ fn digit(c: u8) -> u8
     ensures small { result ≤ 15 }
 {
     if c < b'a' {
-        return c % 16;
+        c % 16
+    } else {
+        (c - b'a') % 6 + 10
     }
-    (c - b'a') % 6 + 10
 }

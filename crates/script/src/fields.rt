@@ -1,6 +1,6 @@
 // Lines, and the fields of a line.
-ghost use Rattle.std.specs.Prelude.{◌≡◌, ◌≤◌, length};
-ghost use Rattle.script.specs.Fields.{up_to, line_end, field_of, rest_of, whole_lines as Fields·whole_lines};
+ghost use Rattle.std.specs.Prelude.{◌≡◌, ◌≤◌, ◌==◌, length, position, reverse};
+ghost use Rattle.script.specs.Fields.{up_to, line_end, field_of, rest_of};
 ghost use Rattle.script.specs.Fields.{runnable as Fields·runnable};
 
 // The size of the first line, without its end.
@@ -8,7 +8,7 @@ pub fn line_size(s: &[u8]) -> usize
     ensures answers { result ≡ length (up_to line_end s.now) }
     ensures inside { result ≤ length s.now }
 {
-    find(s, b'\n')
+    size_before(s, b'\n')
 }
 
 // How many bytes of a block can be run: those of its whole lines, and where it is the last block all.
@@ -19,54 +19,44 @@ pub fn runnable(s: &[u8], last: bool) -> usize
     if last {
         return s.len();
     }
-    whole_lines(s)
+    s.len() - place_from_back(s, b'\n').unwrap_or(s.len())
 }
 
 // The first field, without its bar.
 pub fn field(s: &[u8]) -> &[u8]
     ensures { result.now ≡ field_of s.now }
 {
-    let size = find(s, b'|');
-    &s[0..size]
+    &s[..size_before(s, b'|')]
 }
 
 // What stands behind the bar of the first field.
 pub fn rest(s: &[u8]) -> &[u8]
     ensures { result.now ≡ rest_of s.now }
 {
-    let size = find(s, b'|');
-    if size < s.len() {
-        return &s[size + 1..];
+    match place(s, b'|') {
+        Some(bar) => &s[bar + 1..],
+        None => &[],
     }
-    &s[size..]
 }
 
-// The place of the first `stop`, or the end.
-fn find(s: &[u8], stop: u8) -> usize
+// The size of what stands before the first `stop`: all of it where there is none.
+fn size_before(s: &[u8], stop: u8) -> usize
     ensures answers { result ≡ length (up_to stop s.now) }
     ensures inside { result ≤ length s.now }
 {
-    let mut i = 0;
-    while i < s.len() {
-        if s[i] == stop {
-            return i;
-        }
-        i += 1;
-    }
-    i
+    place(s, stop).unwrap_or(s.len())
 }
 
-// The loop of runnable, from the back: the place behind the last line end, or the start.
-fn whole_lines(s: &[u8]) -> usize
-    ensures answers { result ≡ Fields·whole_lines s.now }
-    ensures inside { result ≤ length s.now }
+// The place of the first `stop`.
+fn place(s: &[u8], stop: u8) -> Option<usize>
+    ensures { result ≡ position (λ b. b == stop) s.now }
 {
-    let mut n = s.len();
-    while 0 < n {
-        if s[n - 1] == b'\n' {
-            return n;
-        }
-        n -= 1;
-    }
-    n
+    s.iter().position(|b| *b == stop)
+}
+
+// The same from the back: how many bytes stand behind the last.
+fn place_from_back(s: &[u8], stop: u8) -> Option<usize>
+    ensures { result ≡ position (λ b. b == stop) (reverse s.now) }
+{
+    s.iter().rev().position(|b| *b == stop)
 }

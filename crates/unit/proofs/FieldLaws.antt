@@ -1,5 +1,5 @@
 -- Laws of fields.
-use Rattle.std.proofs.Common.{◌≡◌, ℕ, zero, suc, ◌+◌, ◌*◌, ◌/◌, ◌^◌, ◌<◌, ◌≤◌, Bool, true, false, cond, ◌&&◌, ◌||◌, eqb, ltb, leb, ◌⊎◌, List, [], ◌∷◌, ◌++◌, length, get_or, take, drop, sym, refl, ap, ◌∙◌, inl, inr, append_assoc, append-nil, add-zero, add-one, arith, length-append, drop_of_length-le, drop-cons, ltb-true, eqb-true, leb-true, Option, Some, None, is_some, unwrap_or, Ok, Err}
+use Rattle.std.proofs.Common.{◌≡◌, ℕ, zero, suc, ◌+◌, ◌*◌, ◌/◌, ◌^◌, ◌<◌, ◌≤◌, Bool, true, false, cond, ◌&&◌, ◌||◌, eqb, ltb, leb, ◌⊎◌, List, [], ◌∷◌, ◌++◌, length, get_or, take, drop, sym, refl, ap, ◌∙◌, inl, inr, append_assoc, append-nil, add-one, arith, length-append, drop_of_length-le, drop-cons, ltb-true, eqb-true, leb-true, Option, Some, None, is_some, unwrap_or, Ok, Err}
 use mathlib.Core.Bool.{false≢true}
 use borrow.Author.Tests.{eqb-false}
 use Rattle.packets.specs.Instruction.{code_of}
@@ -38,17 +38,6 @@ field_count_most Read n = omega arith
 field_count_most ReadModifyWrite n = omega arith
 field_count_most Write n = omega arith
 
--- ---- the fields named by an address and a count
-
-pub length_named : (a n : ℕ) → length (named a n) ≡ n
-length_named a zero = refl
-length_named a (suc n) = ap suc (length_named (a + 1) n)
-
-pub named_at : (a n i : ℕ) → i < n → get_or (named a n) i 0 ≡ a + i
-named_at a zero i h = absurd (omega arith)
-named_at a (suc n) zero h = sym (add-zero a)
-named_at a (suc n) (suc i) h = named_at (a + 1) n i (omega arith) ∙ omega arith
-
 -- ---- the lowest field that offends, from a place on
 
 module _ (l : List ℕ) where
@@ -61,7 +50,7 @@ module _ (l : List ℕ) where
   pub offence_none : (i : ℕ) → i < length l → offence_of (right_of (get_or l i 0)) ≡ Ok tt → write_offence (drop i l) ≡ write_offence (drop (i + 1) l)
   offence_none i h e = offence_at i h ∙ rw e
 
-  pub offence_end : (i : ℕ) → length l ≤ i → write_offence (drop i l) ≡ (Ok tt)
+  pub offence_end : (i : ℕ) → length l ≤ i → write_offence (drop i l) ≡ Ok tt
   offence_end i h = rw (drop_of_length-le l {i = i} h)
 
 -- ---- the bytes of fields, one field after the other

@@ -27,7 +27,8 @@ use Rattle.unit.specs.declared.decide.Action.TheVariants.{Nothing, ReadMemory, R
 use Rattle.unit.specs.declared.decide.Plan.{Plan}
 use Rattle.unit.specs.declared.unit.Unit.{Unit as TheUnit}
 use Rattle.unit.proofs.FateLaws.{passed, success_byte}
-use Rattle.unit.proofs.FieldLaws.{length_named, length_fields}
+use Rattle.std.proofs.lemmas.List.FromFn.{length-range_with_len}
+use Rattle.unit.proofs.FieldLaws.{length_fields}
 use Rattle.unit.proofs.DecideLaws.{write_bit, fields_passed, named_passed, names_length, opened}
 use Rattle.unit.proofs.PlanLaws.{memory_action_in, field_action_in, planned_is, decided_is}
 use Rattle.unit.proofs.GrantLaws.{accepted_memory}
@@ -69,7 +70,7 @@ module _ (u : TheUnit) (h : Header) (link : ℕ) (m : List ℕ) where
   field_count_law Unused p from l used w = absurd (false≢true (sym used))
   field_count_law Read p from l used w =
       let four = eqb-true (h.length % 4) 0 (first_true (eqb (h.length % 4) 0) (leb 4 h.length) (first_true (eqb (h.length % 4) 0 && leb 4 h.length) (leb h.length 64) l)) in
-      let n = length_named h.address (h.length / 4) in
+      let n = length-range_with_len h.address (h.length / 4) in
       omega (arith, four, n, length_fields (values_of u.fields u.owner u.clock.last u.links link) (named h.address (h.length / 4)))
   field_count_law ReadModifyWrite p from l used w = let eight = eqb-true h.length 8 l in omega (arith, eight)
   field_count_law Write p from l used w = absurd (w refl)

@@ -1,5 +1,6 @@
 -- The fields of plug-and-play (document 01, 'Fields'; 000, 5.2.4.4.4, 5.3.3 and 5.3.4).
-use Rattle.std.specs.Prelude.{ℕ, zero, suc, ◌+◌, ◌*◌, ◌/◌, ◌%◌, ◌^◌, Bool, cond, ◌&&◌, ◌||◌, List, [], ◌∷◌, ◌++◌, length, ◌==◌, nat_lt, slice_index, Option, Some, None, Ok, Err}
+use Rattle.std.specs.Prelude.{ℕ, ◌+◌, ◌*◌, ◌/◌, ◌%◌, ◌^◌, Bool, cond, ◌&&◌, ◌||◌, List, [], ◌∷◌, ◌++◌, length, ◌==◌, nat_lt, slice_index, Option, Some, None, Ok, Err}
+use Rattle.std.specs.List.{range_with_len}
 use Rattle.octets.specs.Places.{part}
 use Rattle.octets.specs.Numbers.{number, bytes_of}
 use Rattle.packets.specs.Path.{path_bytes}
@@ -24,8 +25,7 @@ above application protocol set = application * 2 ^ 10 + protocol * 2 ^ 5 + set
 
 -- The fields named by an address and a count.
 abbrev pub named : ℕ → ℕ → List ℕ
-named address zero = []
-named address (suc count) = address ∷ named (address + 1) count
+named = range_with_len
 
 -- Our table, application 0: rows 0 to 10 are protocol 0, set 0, fields 0 to 10; rows 11 to 14 are protocol 1, set 0, fields 0 to 3. Every
 -- other field has row 15, and is missing.

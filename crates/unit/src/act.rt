@@ -17,6 +17,7 @@ use crate::memory::{gather, scatter};
 use crate::owner::Sender;
 use crate::unit::Unit;
 use crate::{clock, fields};
+use octets::Octets;
 use packets::{Command, Data, Reply};
 
 // ---- the reply
@@ -65,7 +66,7 @@ fn answer(to: Reply, action: Action, unit: Unit, link: u8, memory: &[u8], out: &
             to.write(Data::Bytes(&bytes[..4 * count]), out);
         }
         Action::Swap(_, _) => {
-            let device = octets::bytes4(unit.owner.device);
+            let device: [u8; 4] = unit.owner.device.to_octets();
             to.write(Data::Bytes(&device), out);
         }
     }
@@ -76,7 +77,8 @@ fn answer_memory(to: Reply, memory: &[u8], at: usize, count: usize, out: &mut [u
     requires { (at + count ≤ length memory.now) × Gatherable count to.command.header to.command.path to.status (length out.old) }
     ensures { out.new ≡ replied to.command.path to.command.header to.status (part at count memory.now) out.old }
 {
-    gather(memory, at, count, out, to.data_place());
+    let place = to.data_place();
+    gather(memory, at, &mut out[place..place + count]);
     to.write(Data::InPlace(count as u32), out);
 }
 
@@ -89,7 +91,7 @@ fn byte_at(memory: &[u8], at: usize, count: u32) -> u8
         return 0;
     }
     let mut byte = [0u8; 1];
-    gather(memory, at, 1, &mut byte, 0);
+    gather(memory, at, &mut byte);
     byte[0]
 }
 
@@ -115,42 +117,49 @@ pub(crate) fn store(action: Action, packet: &[u8], memory: &mut [u8])
         | Action::ReadFields(_, _)
         | Action::Swap(_, _)
         | Action::WriteField(_, _) => {}
-        Action::Store(at, from, count) => scatter(packet, from, count, memory, at),
-        Action::StoreLast(at, from, count) => store_last(packet, from, count, memory, at),
-        Action::Combine(at, from, count) => combine(packet, from, count, memory, at),
+        Action::Store(at, from, count) => scatter(&packet[from..from + count], memory, at),
+        Action::StoreLast(at, from, count) => store_last(&packet[from..from + count], memory, at),
+        Action::Combine(at, from, count) => {
+            let masks = from + count;
+            combine(
+                &packet[from..masks],
+                &packet[masks..masks + count],
+                memory,
+                at,
+            );
+        }
     }
 }
 
-// Of `count` bytes stored one after the other at one place, the last is left.
-fn store_last(packet: &[u8], from: usize, count: usize, memory: &mut [u8], at: usize)
-    requires { (at + min count 1 ≤ length memory.old) × (from + count ≤ length packet.now) }
-    ensures { memory.new ≡ placed at (last_of (part from count packet.now)) memory.old }
+// Of bytes stored one after the other at one place, the last is left.
+fn store_last(bytes: &[u8], memory: &mut [u8], at: usize)
+    requires { at + min (length bytes.now) 1 ≤ length memory.old }
+    ensures { memory.new ≡ placed at (last_of bytes.now) memory.old }
 {
-    if count == 0 {
-        return;
+    if !bytes.is_empty() {
+        scatter(&bytes[bytes.len() - 1..], memory, at);
     }
-    scatter(packet, from + count - 1, 1, memory, at);
 }
 
-// A read-modify-write of `count` bytes: data from `from` on, then masks.
-fn combine(packet: &[u8], from: usize, count: usize, memory: &mut [u8], at: usize)
-    requires { (at + count ≤ length memory.old) × (from + count + count ≤ length packet.now) × (count ≤ 4) }
-    ensures { memory.new ≡ placed at (combined (part at count memory.old) (part from count packet.now) (part (from + count) count packet.now)) memory.old }
+// A read-modify-write of a few bytes, with as many masks.
+fn combine(bytes: &[u8], masks: &[u8], memory: &mut [u8], at: usize)
+    requires { (at + length bytes.now ≤ length memory.old) × (length masks.now ≡ length bytes.now) × (length bytes.now ≤ 4) }
+    ensures { memory.new ≡ placed at (combined (part at (length bytes.now) memory.old) bytes.now masks.now) memory.old }
 {
-    let mut bytes = [0u8; 4];
-    gather(memory, at, count, &mut bytes, 0);
-    combine_with(packet, from, count, &mut bytes);
-    scatter(&bytes, 0, count, memory, at);
+    let mut room = [0u8; 4];
+    let read = &mut room[..bytes.len()];
+    gather(memory, at, read);
+    combine_with(bytes, masks, read);
+    scatter(read, memory, at);
 }
 
-// Of bytes that were read, the first `count` are combined with their data and masks.
-fn combine_with(packet: &[u8], from: usize, count: usize, read: &mut [u8])
-    requires { (count ≤ length read.old) × (from + count + count ≤ length packet.now) }
-    ensures { read.new ≡ placed 0 (combined (part 0 count read.old) (part from count packet.now) (part (from + count) count packet.now)) read.old }
+// Bytes that were read are combined, each with its byte and its mask.
+fn combine_with(bytes: &[u8], masks: &[u8], read: &mut [u8])
+    requires { (length bytes.now ≡ length read.old) × (length masks.now ≡ length read.old) }
+    ensures { read.new ≡ combined read.old bytes.now masks.now }
 {
-    let masks = from + count;
-    for i in 0..count {
-        read[i] = combine_byte(packet[masks + i], packet[from + i], read[i]);
+    for i in 0..read.len() {
+        read[i] = combine_byte(masks[i], bytes[i], read[i]);
     }
 }
 

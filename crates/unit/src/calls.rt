@@ -36,8 +36,12 @@ pub fn take_packet(
         memory: memory.len(),
         reply: reply.len(),
     };
-    let packet = packets::bare(packet);
-    let arrived = Arrived { packet, end, link };
+    let bytes = packets::bare(packet);
+    let arrived = Arrived {
+        packet: bytes,
+        end,
+        link,
+    };
     let ruling = judge_read(unit, arrived, sizes);
     carry_out(ruling, unit, arrived, memory, reply)
 }

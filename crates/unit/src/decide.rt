@@ -33,16 +33,18 @@ struct Asked {
     ghost kind_is: { kind ≡ kind_in header },
 }
 
-impl Asked {
-    fn by(header: Header) -> Asked
-        ensures { result.header ≡ header }
-    {
+impl From<Header> for Asked {
+    ghost from_gives = { λ header asked. asked.header ≡ header };
+
+    fn from(header: Header) -> Asked {
         Asked {
             header,
             kind: header.instruction.kind(),
         }
     }
+}
 
+impl Asked {
     // The checks that RMAP and plug-and-play share: unused type or code, key, logical address.
     fn opening_status(self, key: u8, logical: u8) -> Status
         ensures { result ≡ Decide·opening_status self.header key logical }
@@ -75,7 +77,7 @@ impl Asked {
         if h.instruction.is_incrementing() {
             return h.length;
         }
-        if h.length < 1 { 0 } else { 1 }
+        h.length.min(1)
     }
 
     fn is_authorised(self, windows: Windows) -> bool
@@ -183,8 +185,7 @@ fn offence_in(kind: Kind, named: Named) -> Status
     ensures { result ≡ Decide·offence_in kind named.address named.count }
 {
     match kind {
-        Kind::Unused => Ok(()),
-        Kind::Read => Ok(()),
+        Kind::Unused | Kind::Read => Ok(()),
         Kind::ReadModifyWrite => swap_offence(named.address),
         Kind::Write => named.write_offence(),
     }
@@ -195,8 +196,7 @@ fn is_allowed(kind: Kind, owner: Owner, sender: Sender) -> bool
     ensures { result ≡ Decide·is_allowed kind owner sender.initiator sender.path sender.link }
 {
     match kind {
-        Kind::Unused => true,
-        Kind::Read => true,
+        Kind::Unused | Kind::Read => true,
         Kind::ReadModifyWrite => (owner.device == 0) | owner.is(sender),
         Kind::Write => owner.is(sender),
     }
@@ -363,23 +363,15 @@ impl Asked {
         }
     }
 
-    // The second half, where the header allows the command: from the bytes at hand, how many came in all, and the CRC of those behind the header.
-    fn decide_by_data(
-        self,
-        path: Path,
-        bytes: &[u8],
-        came: usize,
-        crc: u8,
-        end: End,
-        room: usize,
-    ) -> Plan
-        requires whole { header_size self.header.instruction ≤ came }
-        requires words { (self.header.protocol ≢ 0x01) → is_success (data_status_on self.header (record { bytes = bytes.now; came = came; data_crc = crc }) end) ≡ true → WordsThere (kind_in self.header) (header_size self.header.instruction) (length bytes.now) }
-        ensures { result ≡ decided_by_data self.header path (record { bytes = bytes.now; came = came; data_crc = crc }) (data_status_on self.header (record { bytes = bytes.now; came = came; data_crc = crc }) end) room }
+    // The second half, where the header allows the command: from its bytes, and the CRC of those behind the header.
+    fn decide_by_data(self, path: Path, bytes: &[u8], crc: u8, end: End, room: usize) -> Plan
+        requires whole { header_size self.header.instruction ≤ length bytes.now }
+        requires words { (self.header.protocol ≢ 0x01) → is_success (data_status_on self.header (record { bytes = bytes.now; came = length bytes.now; data_crc = crc }) end) ≡ true → WordsThere (kind_in self.header) (header_size self.header.instruction) (length bytes.now) }
+        ensures { result ≡ decided_by_data self.header path (record { bytes = bytes.now; came = length bytes.now; data_crc = crc }) (data_status_on self.header (record { bytes = bytes.now; came = length bytes.now; data_crc = crc }) end) room }
     {
         let h = self.header;
         let from = h.instruction.header_size();
-        let k = came - from;
+        let k = bytes.len() - from;
         let status = data_status(k, crc, self.wanted_count(), end);
         if h.protocol == 0x01 {
             let action = self.memory_action(status, from, k);
@@ -446,7 +438,7 @@ pub(crate) fn decide(unit: Unit, command: Command, arrived: Arrived, room: usize
     ensures { result ≡ decided unit command.header command.path (record { packet = arrived.entry.packet.now; end = arrived.entry.end; link = arrived.entry.link }) room }
 {
     let path = command.path;
-    let asked = Asked::by(command.header);
+    let asked = Asked::from(command.header);
     let first = asked.header_status(unit, path, arrived.link);
     if first.is_err() {
         return asked.planned(path, first, Action::Nothing, room);
@@ -454,5 +446,5 @@ pub(crate) fn decide(unit: Unit, command: Command, arrived: Arrived, room: usize
     let Arrived { packet, end, .. } = arrived;
     let from = command.header.instruction.header_size();
     let crc = data_crc(&packet[from..], asked.wanted_count(), end);
-    asked.decide_by_data(path, packet, packet.len(), crc, end, room)
+    asked.decide_by_data(path, packet, crc, end, room)
 }

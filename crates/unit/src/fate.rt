@@ -75,16 +75,16 @@ impl Fate {
         ensures { result ≡ fate_status self }
     {
         match self {
-            Fate::TimeChanged => None,
-            Fate::Unusable => None,
-            Fate::NoSuchLink => None,
-            Fate::NoRoom => None,
-            Fate::Unread(_) => None,
-            Fate::TimeThrownAway => None,
             Fate::NotObeyed(offence) => Some(status_byte(Err(offence))),
             Fate::Obeyed => Some(0),
-            Fate::TimeTaken => None,
             Fate::Replied(status) => Some(status_byte(status)),
+            Fate::TimeChanged
+            | Fate::Unusable
+            | Fate::NoSuchLink
+            | Fate::NoRoom
+            | Fate::Unread(_)
+            | Fate::TimeThrownAway
+            | Fate::TimeTaken => None,
         }
     }
 }

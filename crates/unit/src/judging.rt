@@ -40,8 +40,13 @@ pub(crate) struct Arrived<'a> {
 pub fn judge(unit: Unit, packet: &[u8], end: End, link: u8, sizes: Sizes) -> Ruling
     ensures { result ≡ judged unit (as_read (record { packet = packet.now; end = end; link = link })) sizes }
 {
-    let packet = packets::bare(packet);
-    judge_read(unit, Arrived { packet, end, link }, sizes)
+    let bytes = packets::bare(packet);
+    let arrived = Arrived {
+        packet: bytes,
+        end,
+        link,
+    };
+    judge_read(unit, arrived, sizes)
 }
 
 // Judges a packet as it is read.

@@ -22,6 +22,7 @@ pub(crate) struct Sender {
 }
 
 impl Owner {
+    // Kept: a derived Default says of the path only that each of its twelve bytes is 0, and `default ≡ unowned` didn't close.
     fn none() -> Owner
         ensures { result ≡ unowned }
     {

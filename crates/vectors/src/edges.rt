@@ -1,6 +1,5 @@
 // Copies, fills and numbers at the edges of a buffer of eight bytes; and rows at the lengths where the CRC takes another way.
 use crate::show;
-use octets::Number;
 
 // What the buffer holds before each call.
 const LENT: [u8; 8] = [0xf0, 0xf1, 0xf2, 0xf3, 0xf4, 0xf5, 0xf6, 0xf7];
@@ -47,10 +46,10 @@ pub(crate) fn write(name: &[u8], at: usize, width: usize, n: u64) {
 
 pub(crate) fn read(name: &[u8], at: usize, width: usize) {
     match octets::read_number(&LENT, at, width) {
-        Number::Value(n) => {
+        Some(n) => {
             value(name, n);
         }
-        Number::Refused => {
+        None => {
             show::text(name);
             show::text(b": refused\n");
         }

@@ -1,31 +1,23 @@
 -- `octets::copies::copy_part` meets its contract: the definition asks the same two tests.
-use mathlib.Core.Path.{sym, ◌∙◌}
+use borrow.Author.Rules.{rules}
 use borrow.Author.Tests.{leb-true}
-use Rattle.octets.specs.Places.{copied}
+use Prim.Native.Nat.{ℕ}
+use native.Mathlib.Omega.{arith}
+use lib.ListN.{take, drop}
+use mathlib.Core.Path.{sym, ap, ◌∙◌}
+use Rattle.octets.specs.Places.{part}
+use Rattle.octets.proofs.PlaceLaws.{copied_not, copied_done, put_placed, length_part}
 use Rattle.octets.proofs.copies.copy_part.Goals as goal
 
-pub returns-then-not-within : goal.returns-then-not-within
-unfolding copied
-returns-then-not-within c =
-    let e = sym c.within.ensures ∙ c.if-not-within.true in
-    record { answers = rw e; leaves = rw e }
+pub returns-then-not-within-clause-leaves : goal.returns-then-not-within-clause-leaves
+returns-then-not-within-clause-leaves c =
+    let a = c.args in
+    copied_not a.src.now a.from a.count a.dst.now a.at (search rules)
 
-pub returns-then-not-within-2 : goal.returns-then-not-within-2
-unfolding copied
-returns-then-not-within-2 c =
-    let e = sym c.within.ensures ∙ c.if-not-within.false in
-    let f = sym c.within-2.ensures ∙ c.if-not-within-2.true in
-    record { answers = rw (e, f); leaves = rw (e, f) }
-
-pub copy-requires : goal.copy-requires
-copy-requires c =
-    let e = sym c.within.ensures ∙ c.if-not-within.false in
-    let f = sym c.within-2.ensures ∙ c.if-not-within-2.false in
-    (leb-true _ _ e, leb-true _ _ f)
-
-pub returns : goal.returns
-unfolding copied
-returns c =
-    let e = sym c.within.ensures ∙ c.if-not-within.false in
-    let f = sym c.within-2.ensures ∙ c.if-not-within-2.false in
-    record { answers = rw (e, f); leaves = rw (e, f) c.copy.ensures }
+pub returns-clause-leaves : goal.returns-clause-leaves
+returns-clause-leaves c =
+    let a = c.args in
+    let from = leb-true _ _ (sym c.within.ensures ∙ c.if-not-within.false) in
+    let to = leb-true _ _ (sym c.within-else-not-within.ensures ∙ c.if-not-within-2.false) in
+    let put = c.copy_from_slice.ensures.after ∙ ap (λ (n : ℕ). take n (drop a.from a.src.now)) (omega arith) in
+    rw put (put_placed a.at a.count (part a.from a.count a.src.now) a.dst.now (length_part a.from a.count a.src.now from) ∙ sym (copied_done a.src.now a.from a.count a.dst.now a.at from to))

@@ -19,5 +19,5 @@ pub returns : goal.returns
 returns c =
     let a = c.args in
     let copy = c.copy_part.ensures in
-    rw (c.number8.ensures, copy.leaves)
+    rw (c.from_octets.ensures, copy.leaves)
     (read_copied a.s.now a.at a.width (omega arith) copy.answers (c.if-not-copy_part.false))

@@ -20,24 +20,24 @@ next : (whole c entry : ℕ) (bytes : List ℕ) (i : ℕ) → i < length bytes
 next whole c entry bytes i h e goes =
     rw e (omega arith, crc_byte (bit_xor c (get_or bytes i 0) ∷ []), crc_from_next c bytes i h ∙ goes.2)
 
-pub loop-i-init : goal.loop-i-init
-loop-i-init c = (search rules, search rules, refl)
+pub loop-byte-init : goal.loop-byte-init
+loop-byte-init c = (search rules, search rules, refl)
 
 pub bounds-table-c : goal.bounds-table-c
 bounds-table-c c =
-    let test = c.loop-i in
-    omega (arith, xor_lt 8 test.c (get_or c.args.bytes.now test.i 0) test.invariant.1 (omega arith))
+    let test = c.loop-byte in
+    omega (arith, xor_lt 8 test.c (get_or c.args.bytes.now test.byte-index 0) test.invariant.1 (omega arith))
 
 pub returns : goal.returns
 returns c =
-    sym (crc_from_end c.loop-i.c c.args.bytes.now c.loop-i.i (search rules)) ∙ c.loop-i.invariant.2
+    sym (crc_from_end c.loop-byte.c c.args.bytes.now c.loop-byte.byte-index (search rules)) ∙ c.loop-byte.invariant.2
 
 -- the table is compared as a whole: `at` speaks of that of the CRC of each byte, and what is asked of `next` is about that of the code
-pub loop-i-preserved : goal.loop-i-preserved
+pub loop-byte-preserved : goal.loop-byte-preserved
 unfolding crc message remainder mirrored modulo bits
-loop-i-preserved c =
-    let test = c.loop-i in
-    let byte = c.type_inv.bytes test.i in
-    let fits : bit_xor test.c (get_or c.args.bytes.now test.i 0) < 256 = xor_lt 8 test.c _ test.invariant.1 (omega (arith, byte)) in
+loop-byte-preserved c =
+    let test = c.loop-byte in
+    let byte = c.type_inv.bytes test.byte-index in
+    let fits : bit_xor test.c (get_or c.args.bytes.now test.byte-index 0) < 256 = xor_lt 8 test.c _ test.invariant.1 (omega (arith, byte)) in
     let entry = at 0 (λ k. crc (k ∷ [])) 256 _ fits in
-    next _ test.c _ c.args.bytes.now test.i (search rules) entry test.invariant
+    next _ test.c _ c.args.bytes.now test.byte-index (search rules) entry test.invariant

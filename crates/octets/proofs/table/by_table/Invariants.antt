@@ -2,7 +2,7 @@
 -- that of the whole; the table has the CRC of each byte.
 use mathlib.Core.Path.{◌≡◌}
 use mathlib.Core.List.{List}
-use Prim.Native.Nat.{ℕ, ◌-◌, ◌<◌, ◌≤◌}
+use Prim.Native.Nat.{ℕ, ◌<◌, ◌≤◌}
 use lib.ListN.{length, drop}
 use Rattle.octets.specs.Crc.{crc_from}
 use Rattle.octets.proofs.table.by_table.Given as goal
@@ -11,8 +11,5 @@ use Rattle.octets.proofs.table.by_table.Given as goal
 abbrev pub GoesOn : ℕ → List ℕ → ℕ → ℕ → Type 0
 GoesOn whole bytes c i = (i ≤ length bytes) × (c < 256) × (crc_from c (drop i bytes) ≡ whole)
 
-abbrev pub invariant-loop-i : goal.invariant-loop-i
-invariant-loop-i l = GoesOn (crc_from l.running l.bytes) l.bytes l.c l.i
-
-abbrev pub decreases-loop-i : goal.decreases-loop-i
-decreases-loop-i l = length l.bytes - l.i
+abbrev pub invariant-loop-byte : goal.invariant-loop-byte
+invariant-loop-byte l = GoesOn (crc_from l.running l.bytes) l.bytes l.c l.byte-index

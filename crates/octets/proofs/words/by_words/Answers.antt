@@ -1,60 +1,45 @@
 -- `octets::words::by_words` meets its contract: at each test the CRC that goes on from that of the two words, over the bytes still to come, is that
 -- of the whole.
 use native.Mathlib.Omega.{arith}
-use mathlib.Core.Path.{◌≡◌, sym, ◌∙◌}
-use mathlib.Core.List.{List}
-use Prim.Native.Nat.{ℕ, ◌+◌, ◌-◌, ◌*◌, ◌/◌, ◌%◌, ◌^◌, ◌<◌}
-use native.Mathlib.Nat.{mod-lt}
+use mathlib.Core.Path.{◌≡◌, sym, ap, ◌∙◌}
+use mathlib.Core.List.{List, []}
+use Prim.Native.Nat.{ℕ, ◌+◌, ◌-◌, ◌*◌, ◌/◌, ◌%◌, ◌<◌, ◌≤◌}
 use borrow.Author.Rules.{rules}
-use lib.Bits.{bit_xor, xor_lt}
-use lib.Pow.{pow_pos}
-use lib.ListN.{length}
-use Rattle.octets.specs.Numbers.{Digits}
+use lib.ListN.{length, get_or}
 use Rattle.octets.specs.Places.{part}
-use Rattle.octets.specs.Words.{crc_of_two, word_of}
+use Rattle.octets.specs.Words.{crc_of_two}
 use Rattle.octets.proofs.CrcLaws.{crc_from_end}
 use Rattle.octets.proofs.NumberLaws.{digits_of}
+use Rattle.octets.proofs.PlaceLaws.{length_rest, chunk_part, chunk_rest}
 use Rattle.octets.proofs.WordLaws.{word_first, word_next}
-use Rattle.octets.proofs.words.by_words.Invariants.{GoesOn}
 use Rattle.octets.proofs.words.by_words.Goals as goal
 
--- a word more
-next : (whole upper lower word : ℕ) (bytes : List ℕ) (left : ℕ) → Digits 256 bytes → 0 < left → word < 2 ^ 64
-    → word ≡ word_of (part (length bytes - left) 8 bytes)
-    → GoesOn whole bytes upper lower left
-    → GoesOn whole bytes (bit_xor lower (upper * 2 ^ 63 % 2 ^ 64)) (bit_xor word (upper / 2)) (left - 8)
-next whole upper lower word bytes left t some fits e goes =
-    let at : length bytes - (left - 8) ≡ length bytes - left + 8 = omega arith in (
-      omega arith,
-      omega arith,
-      xor_lt 64 lower _ goes.3 (mod-lt _ (pow_pos 64)),
-      xor_lt 64 word (upper / 2) fits (omega arith),
-      rw (e, at) (word_next bytes t upper lower (length bytes - left) goes.2 goes.3 (omega arith) ∙ goes.4),
-    )
-
-pub loop-left-init : goal.loop-left-init
-loop-left-init c =
-    let a = c.args in
-    let bytes = a.bytes.now in
+pub loop-eight-init : goal.loop-eight-init
+loop-eight-init c =
+    let bytes = c.args.bytes.now in
     let first = (length bytes - 1) % 8 + 1 in
     let t = digits_of 256 bytes (λ k. omega (arith, c.type_inv.bytes k)) in
-    let at : length bytes - (length bytes - first) ≡ first = omega arith in (
-      omega arith,
-      omega arith,
-      omega arith,
-      mod-lt _ (pow_pos 64),
-      rw (c.word_at.ensures, at) (word_first bytes t a.running first (search rules) (omega arith) (omega arith) (search rules)),
-    )
+    let at : first + 0 * 8 ≡ first = omega arith in
+    let front : get_or c.as_chunks.result.0.now 0 [] ≡ part 0 8 bytes =
+    ap (λ (rows : List (List ℕ)). get_or rows 0 []) c.as_chunks.ensures.front ∙ chunk_part 8 (length bytes / 8) bytes 0 (omega (arith, c.requires)) in
+    rw (c.word.ensures, front, at) (word_first bytes t c.args.running first (search rules) (omega arith) (omega arith) (search rules))
 
-pub loop-left-preserved : goal.loop-left-preserved
-loop-left-preserved c =
+pub loop-eight-preserved : goal.loop-eight-preserved
+loop-eight-preserved c =
     let bytes = c.args.bytes.now in
+    let first = (length bytes - 1) % 8 + 1 in
+    let at = c.loop-eight in
+    let k = at.eight-index in
     let t = digits_of 256 bytes (λ k. omega (arith, c.type_inv.bytes k)) in
-    next _ c.loop-left.upper c.loop-left.lower _ bytes c.loop-left.left t (search rules) (search rules) c.word_at-in-loop-left.ensures c.loop-left.invariant
+    let more : k < (length bytes - first) / 8 = omega (arith, c.as_chunks-2.ensures.front_len, length_rest first bytes (search rules), c.loop-eight-test.true) in
+    let eight : get_or c.as_chunks-2.result.0.now k [] ≡ part (first + k * 8) 8 bytes = chunk_rest 8 first bytes _ k c.as_chunks-2.ensures.front more in
+    let on : first + (k + 1) * 8 ≡ first + k * 8 + 8 = omega arith in
+    rw (c.word-in-loop-eight.ensures, eight, on) (word_next bytes t at.upper at.lower (first + k * 8) (search rules) (search rules) (omega (arith, c.requires)) ∙ at.invariant)
 
 pub returns : goal.returns
 returns c =
     let bytes = c.args.bytes.now in
-    c.reduced.ensures
-    ∙ sym (crc_from_end (crc_of_two c.loop-left.upper c.loop-left.lower) bytes (length bytes - c.loop-left.left) (omega arith))
-    ∙ c.loop-left.invariant.4
+    let at = c.loop-eight in
+    let first = (length bytes - 1) % 8 + 1 in
+    let end : length bytes ≤ first + at.eight-index * 8 = omega (arith, c.as_chunks-2.ensures.front_len, length_rest first bytes (search rules), c.loop-eight-test.false) in
+    c.reduced.ensures ∙ sym (crc_from_end (crc_of_two at.upper at.lower) bytes (first + at.eight-index * 8) end) ∙ at.invariant

@@ -1,8 +1,6 @@
 -- `script::fields::field` meets its contract: what stands before the bar is a first part.
-use native.Mathlib.Omega.{arith}
-use mathlib.Core.Path.{◌≡◌, ap, ◌∙◌}
-use Prim.Native.Nat.{ℕ, ◌-◌}
-use lib.ListN.{take}
+use mathlib.Core.Path.{ap, ◌∙◌}
+use Rattle.std.proofs.Common.{ℕ, take}
 use Rattle.script.specs.Fields.{bar}
 use Rattle.script.proofs.FieldLaws.{up_to_take}
 use Rattle.script.proofs.fields.field.Goals as goal
@@ -10,6 +8,4 @@ use Rattle.script.proofs.fields.field.Goals as goal
 pub returns : goal.returns
 returns c =
     let s = c.args.s.now in
-    let found = c.find-size in
-    let e : found.result - 0 ≡ found.result = omega arith in
-    ap (λ (n : ℕ). take n s) (e ∙ found.ensures.answers) ∙ up_to_take bar s
+    ap (λ (n : ℕ). take n s) c.size_before.ensures.answers ∙ up_to_take bar s

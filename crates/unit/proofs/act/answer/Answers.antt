@@ -37,4 +37,4 @@ returns-in-ReadFields c = rw (c.in-ReadFields.is, ← c.shown-bytes.ensures) c.w
 pub returns-in-Swap : goal.returns-in-Swap
 unfolding data_for
 returns-in-Swap c =
-    rw (c.in-Swap.is, ← c.bytes4-device.ensures) c.write-in-Swap.ensures.leaves
+    rw (c.in-Swap.is, ← c.to_octets-device.ensures) c.write-in-Swap.ensures.leaves

@@ -8,9 +8,9 @@ pub carry_out-requires : goal.carry_out-requires
 carry_out-requires c =
     let a = c.args in
     rw c.judge_read-ruling.ensures
-    (judged_allowed a.unit (record { packet = c.bare-packet.result.now; end = a.end; link = a.link }) (record { memory = length a.memory.now; reply = length a.reply.now }))
+    (judged_allowed a.unit (record { packet = c.bare-bytes.result.now; end = a.end; link = a.link }) (record { memory = length a.memory.now; reply = length a.reply.now }))
 
 pub returns : goal.returns
 unfolding take_packet
 returns c =
-    rw (← c.bare-packet.ensures, ← c.judge_read-ruling.ensures) c.carry_out.ensures
+    rw (← c.bare-bytes.ensures, ← c.judge_read-ruling.ensures) c.carry_out.ensures

@@ -1,7 +1,7 @@
 -- `unit::decide::Asked::span_size` meets its contract: the same tests; the smaller of L and 1 is 0 or 1.
 use Rattle.packets.specs.Instruction.{is_rmw}
 use Rattle.unit.specs.Decide.{span_size}
-use Rattle.std.proofs.Common.{◌≡◌, rules, sym, ap, ◌∙◌, arith}
+use Rattle.std.proofs.Common.{◌≡◌, rules, sym, ap, ◌∙◌}
 use Rattle.unit.proofs.decide.Asked.span_size.Goals as goal
 
 pub returns-then-eq : goal.returns-then-eq
@@ -19,20 +19,11 @@ returns-then-is_incrementing c =
       sym c.is_incrementing.ensures ∙ c.if-is_incrementing.true,
     )
 
-pub returns-then-h-lt1 : goal.returns-then-h-lt1
+pub returns : goal.returns
 unfolding span_size
-returns-then-h-lt1 c =
+returns c =
     let is : c.eq.result ≡ is_rmw c.args.self.kind = search rules in
     rw (
       ap is_rmw (sym c.args.self.kind_is) ∙ sym is ∙ c.if-eq.false,
       sym c.is_incrementing.ensures ∙ c.if-is_incrementing.false,
-    ) (omega arith)
-
-pub returns-else-h-lt1 : goal.returns-else-h-lt1
-unfolding span_size
-returns-else-h-lt1 c =
-    let is : c.eq.result ≡ is_rmw c.args.self.kind = search rules in
-    rw (
-      ap is_rmw (sym c.args.self.kind_is) ∙ sym is ∙ c.if-eq.false,
-      sym c.is_incrementing.ensures ∙ c.if-is_incrementing.false,
-    ) (omega arith)
+    ) c.min.ensures
