@@ -22,6 +22,7 @@ pub struct Answer {
 }
 
 // Takes a packet, without its end, that came on a link.
+// Kept: no `Arrived` as a parameter; it is what callers outside write (`hello`, README).
 pub fn take_packet(
     unit: Unit,
     packet: &[u8],

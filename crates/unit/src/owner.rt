@@ -5,6 +5,7 @@ ghost use Rattle.unit.specs.Owner.{is_owner, unowned, claimed, swapped};
 use packets::Path;
 
 // Device ID, 0 where nobody owns the unit; and initiator address, reply path and link of the claim.
+// Kept: flat, with no `Sender` in it; callers write the fields of this public type, and `swap_claims` and `swap_releases` say them.
 #[derive(Clone, Copy)]
 pub struct Owner {
     pub device: u32,
