@@ -19,6 +19,8 @@ octets_determined = (
   λ κs a z z' e e' p q. p ∙ sym q,
   λ κs a z z' e e' p q. p ∙ sym q,
   λ κs a z z' e e' p q. p ∙ sym q,
+  λ κs a z z' e e' p q. p ∙ sym q,
+  λ κs a z z' e e' p q. p ∙ sym q,
   λ κs a z z' e e' p q. p.0 ∙ sym q.0,
   λ κs a z z' e e' p q. p.1 ∙ sym q.1,
   λ κs a z z' e e' p q. p.0 ∙ sym q.0,
@@ -105,7 +107,7 @@ script_determined = (
 )
 
 pub octets_ask_nothing : OctetsAskNothing
-octets_ask_nothing = (λ κs a. tt, λ κs a. tt, λ κs a. tt, λ κs a. tt, λ κs a. tt, λ κs a. tt, λ κs a. tt, λ κs a. tt, λ κs a. tt, λ κs a. tt, λ κs a. tt, λ κs a. tt, λ κs a. tt, λ κs a. tt, λ κs a. tt)
+octets_ask_nothing = (λ κs a. tt, λ κs a. tt, λ κs a. tt, λ κs a. tt, λ κs a. tt, λ κs a. tt, λ κs a. tt, λ κs a. tt, λ κs a. tt, λ κs a. tt, λ κs a. tt, λ κs a. tt, λ κs a. tt, λ κs a. tt, λ κs a. tt, λ κs a. tt, λ κs a. tt)
 
 pub packets_ask_nothing : PacketsAskNothing
 packets_ask_nothing = (λ κs a. tt, λ κs a. tt, λ κs a. tt, λ κs a. tt, λ κs a. tt, λ κs a. tt, λ κs a. tt, λ κs a. tt, λ κs a. tt, λ κs a. tt, λ κs a. tt, λ κs a. tt, λ κs a. tt, λ κs a. tt, λ κs a. tt, λ κs a. tt, λ κs a. tt, λ κs a. tt, λ κs a. tt, λ κs a. tt, λ κs a. tt, λ κs a. tt, λ κs a. tt, λ κs a. tt, λ κs a. tt, λ κs a. tt, λ κs a. tt, λ κs a. tt, λ κs a. tt, λ κs a. tt, λ κs a. tt)

@@ -6,14 +6,16 @@ use Rattle.octets.proofs.crc_of.Reads.{Asked as asked·crc_of, Learnt as promise
 use Rattle.octets.proofs.crc_from.Reads.{Asked as asked·crc_from, Learnt as promise·crc_from}
 use Rattle.octets.proofs.read_number.Reads.{Asked as asked·read_number, Learnt as promise·read_number}
 use Rattle.octets.proofs.write_number.Reads.{Asked as asked·write_number, Learnt as promise·write_number}
-use Rattle.octets.proofs.number2.Reads.{Asked as asked·number2, Learnt as promise·number2}
-use Rattle.octets.proofs.number3.Reads.{Asked as asked·number3, Learnt as promise·number3}
-use Rattle.octets.proofs.number4.Reads.{Asked as asked·number4, Learnt as promise·number4}
-use Rattle.octets.proofs.number7.Reads.{Asked as asked·number7, Learnt as promise·number7}
-use Rattle.octets.proofs.bytes2.Reads.{Asked as asked·bytes2, Learnt as promise·bytes2}
-use Rattle.octets.proofs.bytes3.Reads.{Asked as asked·bytes3, Learnt as promise·bytes3}
-use Rattle.octets.proofs.bytes4.Reads.{Asked as asked·bytes4, Learnt as promise·bytes4}
-use Rattle.octets.proofs.bytes7.Reads.{Asked as asked·bytes7, Learnt as promise·bytes7}
+use Rattle.octets.proofs.numbers.U16Octets2.from_octets.Reads.{Asked as asked·U16Octets2·from_octets, Learnt as promise·U16Octets2·from_octets}
+use Rattle.octets.proofs.numbers.U16Octets2.to_octets.Reads.{Asked as asked·U16Octets2·to_octets, Learnt as promise·U16Octets2·to_octets}
+use Rattle.octets.proofs.numbers.U32Octets3.from_octets.Reads.{Asked as asked·U32Octets3·from_octets, Learnt as promise·U32Octets3·from_octets}
+use Rattle.octets.proofs.numbers.U32Octets3.to_octets.Reads.{Asked as asked·U32Octets3·to_octets, Learnt as promise·U32Octets3·to_octets}
+use Rattle.octets.proofs.numbers.U32Octets4.from_octets.Reads.{Asked as asked·U32Octets4·from_octets, Learnt as promise·U32Octets4·from_octets}
+use Rattle.octets.proofs.numbers.U32Octets4.to_octets.Reads.{Asked as asked·U32Octets4·to_octets, Learnt as promise·U32Octets4·to_octets}
+use Rattle.octets.proofs.numbers.U64Octets7.from_octets.Reads.{Asked as asked·U64Octets7·from_octets, Learnt as promise·U64Octets7·from_octets}
+use Rattle.octets.proofs.numbers.U64Octets7.to_octets.Reads.{Asked as asked·U64Octets7·to_octets, Learnt as promise·U64Octets7·to_octets}
+use Rattle.octets.proofs.numbers.U64Octets8.from_octets.Reads.{Asked as asked·U64Octets8·from_octets, Learnt as promise·U64Octets8·from_octets}
+use Rattle.octets.proofs.numbers.U64Octets8.to_octets.Reads.{Asked as asked·U64Octets8·to_octets, Learnt as promise·U64Octets8·to_octets}
 use Rattle.octets.proofs.copy_part.Reads.{Asked as asked·copy_part, Learnt as promise·copy_part}
 use Rattle.octets.proofs.fill.Reads.{Asked as asked·fill, Learnt as promise·fill}
 use Rattle.octets.proofs.move_to_start.Reads.{Asked as asked·move_to_start, Learnt as promise·move_to_start}
@@ -98,14 +100,16 @@ OctetsDetermined =
     × (OneResult promise·read_number)
     × (OneResult promise·write_number)
     × (OneExit promise·write_number (λ κs e. (first e).now))  -- the buffer
-    × (OneResult promise·number2)
-    × (OneResult promise·number3)
-    × (OneResult promise·number4)
-    × (OneResult promise·number7)
-    × (OneResult promise·bytes2)
-    × (OneResult promise·bytes3)
-    × (OneResult promise·bytes4)
-    × (OneResult promise·bytes7)
+    × (OneResult promise·U16Octets2·from_octets)
+    × (OneResult promise·U16Octets2·to_octets)
+    × (OneResult promise·U32Octets3·from_octets)
+    × (OneResult promise·U32Octets3·to_octets)
+    × (OneResult promise·U32Octets4·from_octets)
+    × (OneResult promise·U32Octets4·to_octets)
+    × (OneResult promise·U64Octets7·from_octets)
+    × (OneResult promise·U64Octets7·to_octets)
+    × (OneResult promise·U64Octets8·from_octets)
+    × (OneResult promise·U64Octets8·to_octets)
     × (OneResult promise·copy_part)
     × (OneExit promise·copy_part (λ κs e. (fourth e).now))  -- the destination
     × (OneResult promise·fill)
@@ -192,14 +196,16 @@ OctetsAskNothing =
     × AsksNothing asked·crc_from
     × AsksNothing asked·read_number
     × AsksNothing asked·write_number
-    × AsksNothing asked·number2
-    × AsksNothing asked·number3
-    × AsksNothing asked·number4
-    × AsksNothing asked·number7
-    × AsksNothing asked·bytes2
-    × AsksNothing asked·bytes3
-    × AsksNothing asked·bytes4
-    × AsksNothing asked·bytes7
+    × AsksNothing asked·U16Octets2·from_octets
+    × AsksNothing asked·U16Octets2·to_octets
+    × AsksNothing asked·U32Octets3·from_octets
+    × AsksNothing asked·U32Octets3·to_octets
+    × AsksNothing asked·U32Octets4·from_octets
+    × AsksNothing asked·U32Octets4·to_octets
+    × AsksNothing asked·U64Octets7·from_octets
+    × AsksNothing asked·U64Octets7·to_octets
+    × AsksNothing asked·U64Octets8·from_octets
+    × AsksNothing asked·U64Octets8·to_octets
     × AsksNothing asked·copy_part
     × AsksNothing asked·fill
     × AsksNothing asked·move_to_start

@@ -11,7 +11,4 @@ mod words;
 
 pub use copies::{copy_part, fill, move_to_start};
 pub use crc::{crc_from, crc_of};
-pub use numbers::{
-    Octets, bytes2, bytes3, bytes4, bytes7, number2, number3, number4, number7, read_number,
-    write_number,
-};
+pub use numbers::{Octets, read_number, write_number};

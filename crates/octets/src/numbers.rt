@@ -1,5 +1,5 @@
 // Numbers in bytes, most significant byte first (document 01, 'Reading a packet' and 'Time').
-ghost use Rattle.std.specs.Prelude.{◌≡◌, [], ◌∷◌, ◌^◌, ◌≤◌, ltb, ℕ};
+ghost use Rattle.std.specs.Prelude.{◌≡◌, ◌^◌, ◌≤◌, ltb, ℕ};
 ghost use Rattle.octets.specs.Numbers.{number, bytes_of, read_number as Numbers·read_number, number_fits, written};
 
 use crate::copies::copy_part;
@@ -148,53 +148,4 @@ impl Octets<8> for u64 {
     {
         self.to_be_bytes()
     }
-}
-
-// The same by a function for each width, for callers that have not yet moved.
-pub fn number2(a: u8, b: u8) -> u16
-    ensures { result ≡ number (a ∷ b ∷ []) }
-{
-    u16::from_octets([a, b])
-}
-
-pub fn bytes2(n: u16) -> [u8; 2]
-    ensures { result ≡ bytes_of 2 n }
-{
-    n.to_octets()
-}
-
-pub fn number3(a: u8, b: u8, c: u8) -> u32
-    ensures { result ≡ number (a ∷ b ∷ c ∷ []) }
-{
-    u32::from_octets([a, b, c])
-}
-
-pub fn bytes3(n: u32) -> [u8; 3]
-    ensures { result ≡ bytes_of 3 n }
-{
-    n.to_octets()
-}
-
-pub fn number4(a: u8, b: u8, c: u8, d: u8) -> u32
-    ensures { result ≡ number (a ∷ b ∷ c ∷ d ∷ []) }
-{
-    u32::from_octets([a, b, c, d])
-}
-
-pub fn bytes4(n: u32) -> [u8; 4]
-    ensures { result ≡ bytes_of 4 n }
-{
-    n.to_octets()
-}
-
-pub fn number7(a: u8, b: u8, c: u8, d: u8, e: u8, f: u8, g: u8) -> u64
-    ensures { result ≡ number (a ∷ b ∷ c ∷ d ∷ e ∷ f ∷ g ∷ []) }
-{
-    u64::from_octets([a, b, c, d, e, f, g])
-}
-
-pub fn bytes7(n: u64) -> [u8; 7]
-    ensures { result ≡ bytes_of 7 n }
-{
-    n.to_octets()
 }
