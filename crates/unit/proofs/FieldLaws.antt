@@ -4,11 +4,11 @@ use mathlib.Core.Bool.{false≢true}
 use borrow.Author.Tests.{eqb-false}
 use Rattle.packets.specs.Instruction.{code_of}
 use Rattle.packets.specs.declared.header.Header.{Header}
-use lib.Seq.{take-length}
 use Rattle.std.specs.Option.{option_eq}
-use Rattle.octets.specs.Places.{part, placed, copied}
+use borrow.Rule.Slice.PartMut.{put_mid}
+use Rattle.std.proofs.lemmas.Slice.{take-put_mid}
 use Rattle.octets.specs.Numbers.{bytes_of}
-use Rattle.octets.proofs.PlaceLaws.{take_placed, copied_done, first_true, second_true}
+use Rattle.octets.proofs.PlaceLaws.{first_true, second_true}
 use Rattle.octets.proofs.Tabulate.{at}
 use Rattle.packets.specs.declared.instruction.Kind.{Kind}
 use Rattle.packets.specs.declared.instruction.Kind.TheVariants.{Unused, Read, ReadModifyWrite, Write}
@@ -63,19 +63,13 @@ bytes_more v (x ∷ l) (suc i) h =
     ap (λ (b : List ℕ). bytes_of 4 (get_or v (row_of x) 0) ++ b) (bytes_more v l i (omega arith))
     ∙ sym (append_assoc (bytes_of 4 (get_or v (row_of x) 0)) (field_bytes v (take i l)) (bytes_of 4 (get_or v (row_of (get_or l i 0)) 0)))
 
--- the next one was copied behind those that are there
-pub bytes_next : (v l out : List ℕ) {word then : List ℕ} (i : ℕ) → i < length l → 4 * i + 4 ≤ length out
+-- the next one was written behind those that are there
+pub bytes_next : (v l out : List ℕ) {word : List ℕ} (i k : ℕ) → i < length l → 4 * i ≤ length out
     → take (4 * i) out ≡ field_bytes v (take i l) → word ≡ bytes_of 4 (get_or v (row_of (get_or l i 0)) 0)
-    → then ≡ copied word 0 4 out (4 * i) → take (4 * (i + 1)) then ≡ field_bytes v (take (i + 1) l)
-bytes_next v l out {word} {then} i h room e f g =
+    → take (4 * (i + 1)) (put_mid (4 * i) k out word) ≡ field_bytes v (take (i + 1) l)
+bytes_next v l out {word} i k h room e f =
     let four : length word ≡ 4 = ap length f in
-    let whole : part 0 4 word ≡ word = ap (λ (k : ℕ). take k word) (sym four) ∙ take-length word in
-    let p : then ≡ placed (4 * i) word out =
-    g ∙ copied_done word 0 4 out (4 * i) (omega (arith, four)) room ∙ ap (λ (w : List ℕ). placed (4 * i) w out) whole in
-    let n : 4 * (i + 1) ≡ 4 * i + length word = omega (arith, four) in
-    ap (take (4 * (i + 1))) p ∙ ap (λ (k : ℕ). take k (placed (4 * i) word out)) n
-    ∙ take_placed (4 * i) word out (omega (arith, four, room))
-    ∙ rw (e, f, add-one) (sym (bytes_more v l i h))
+    take-put_mid (4 * i) k out word (4 * (i + 1)) (omega (arith, four)) room ∙ rw (e, f, add-one) (sym (bytes_more v l i h))
 
 -- ---- an obeyed write names one field: the two that are written are no neighbours
 

@@ -202,7 +202,7 @@ impl Named {
         for i in 0..self.count {
             let row = row_of(self.address + i as u32).unwrap_or(MISSING);
             let word: [u8; 4] = values[row].to_octets();
-            octets::copy_part(&word, 0, 4, &mut out, 4 * i);
+            out[4 * i..4 * i + 4].copy_from_slice(&word);
         }
         out
     }
