@@ -4,9 +4,8 @@
 
 mod fields;
 mod lines;
-mod runs;
 mod show;
 
 pub use fields::{Fields, bytes};
-pub use runs::Runs;
+pub use lines::Lines;
 pub use show::{Out, Row};

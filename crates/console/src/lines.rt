@@ -1,12 +1,14 @@
 // The lines of standard input.
-ghost use Rattle.std.specs.Prelude.{◌≡◌, ◌≤◌, ◌+◌, ◌-◌, IfOk, length};
+ghost use Rattle.std.specs.Prelude.{◌≡◌, ◌≤◌, ◌+◌, ◌-◌, IfSome, length};
 ghost use Rattle.octets.specs.Places.{part};
 ghost use Rattle.script.specs.Fields.{up_to, line_end};
+
+use crate::say;
 
 // Standard input, line by line, in a buffer of 64 KiB: the bytes from `from` up to `have` are read and not given out. `last` says that no
 // more come.
 #[derive(Drop)]
-pub(crate) struct Lines {
+pub struct Lines {
     space: [u8; 65536],
     from: usize,
     have: usize,
@@ -14,15 +16,8 @@ pub(crate) struct Lines {
     ghost inside: { (from ≤ have) × (have ≤ 65536) },
 }
 
-// Why there is no next line: the input ended, or a line with its end does not fit the buffer.
-#[derive(Clone, Copy)]
-pub(crate) enum Stop {
-    Ended,
-    TooLong,
-}
-
 impl Lines {
-    pub(crate) fn new() -> Lines
+    pub fn new() -> Lines
         ensures { result.have ≡ 0 }
     {
         Lines {
@@ -33,24 +28,24 @@ impl Lines {
         }
     }
 
-    // Gives the next line, without its end, which the last may lack. It waits for input only where no whole line is left.
-    pub(crate) fn next(&mut self) -> Result<&[u8], Stop>
-        ensures { IfOk result (λ line. up_to line_end line.now ≡ line.now) }
+    // Gives the next line, without its end, which the last may lack; none where the input has ended, or where a line with its end does not fit the
+    // buffer, which is told. It waits for input only where no whole line is left.
+    pub fn next(&mut self) -> Option<&[u8]>
+        ensures { IfSome result (λ line. up_to line_end line.now ≡ line.now) }
     {
         if !self.last && self.runnable() == 0 {
             self.read_on();
         }
         if self.runnable() == 0 {
-            return Err(if self.last {
-                Stop::Ended
-            } else {
-                Stop::TooLong
-            });
+            if !self.last {
+                say!("a line is longer than 65535 bytes\n");
+            }
+            return None;
         }
         let from = self.from;
         let end = self.line_end();
         self.from = self.have.min(end + 1);
-        Ok(&self.space[from..end])
+        Some(&self.space[from..end])
     }
 
     // How many of the bytes that are not given out can be run: those of whole lines, and where no more come all.

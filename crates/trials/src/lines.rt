@@ -15,11 +15,12 @@
 //                                              path, 8 its link, 9 every counter; 10 to 19 the fields that are held, in order
 //   x row|start|end|rights                     a window is set; rights are 1 to read, 2 to write, 3 both
 use crate::units::Trial;
-use console::{Fields, Runs, say};
+use console::{Fields, say};
 use packets::End;
 
-impl Runs for Trial {
-    fn run(&mut self, line: &[u8]) {
+impl Trial {
+    // Runs a line, without its end.
+    pub(crate) fn run(&mut self, line: &[u8]) {
         let [verb, _, left @ ..] = line else {
             return;
         };

@@ -5,10 +5,17 @@
 mod lines;
 mod units;
 
-use console::Runs;
+use console::Lines;
 use units::Trial;
 
 fn main() {
     let mut trial = Trial::new();
-    trial.run_all();
+    let mut input = Lines::new();
+    // A proved loop has to end: it counts its turns, up to a number that no run uses up.
+    for _ in 0..u64::MAX {
+        let Some(line) = input.next() else {
+            return;
+        };
+        trial.run(line);
+    }
 }

@@ -17,20 +17,16 @@
 //   f name|at|count                            places of eight bytes are filled
 //   n name|at|width|number, v name|at|width    a number is written into eight bytes, or read out of them
 use crate::{annex, commands, edges, instructions, times};
-use console::{Fields, Runs, bytes, say};
+use console::{Fields, bytes, say};
 use packets::{Data, End};
 use script::{byte, number};
 
-#[derive(Clone, Copy)]
-pub(crate) struct Vectors;
-
-impl Runs for Vectors {
-    fn run(&mut self, line: &[u8]) {
-        let [verb, _, left @ ..] = line else {
-            return;
-        };
-        vector(*verb, Fields { left });
-    }
+// Runs a line, without its end.
+pub(crate) fn run(line: &[u8]) {
+    let [verb, _, left @ ..] = line else {
+        return;
+    };
+    vector(*verb, Fields { left });
 }
 
 fn vector(verb: u8, mut line: Fields) {

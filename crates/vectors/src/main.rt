@@ -9,12 +9,19 @@ mod instructions;
 mod lines;
 mod times;
 
-use console::Runs;
+use console::Lines;
 
 fn main() {
     annex::no_bytes();
     annex::table();
     edges::numbers_of_bytes();
     edges::bytes_of_numbers();
-    lines::Vectors.run_all();
+    let mut input = Lines::new();
+    // A proved loop has to end: it counts its turns, up to a number that no run uses up.
+    for _ in 0..u64::MAX {
+        let Some(line) = input.next() else {
+            return;
+        };
+        lines::run(line);
+    }
 }
