@@ -112,9 +112,5 @@ fn time_at(p: &[u8]) -> Time
 fn when_of(bit: u8) -> When
     ensures { result ≡ Time·when_of bit }
 {
-    if bit == 1 {
-        When::AtOnce
-    } else {
-        When::AtWrap
-    }
+    if bit == 1 { When::AtOnce } else { When::AtWrap }
 }
