@@ -12,6 +12,7 @@ pub enum Kind {
     Write,
 }
 
+// Kept: three public functions whose promises docs/PROMISES.md and `PacketsDetermined` (demands) name; the code asks by `==`.
 impl Kind {
     pub fn is_unused(self) -> bool
         ensures { result ≡ Instruction·is_unused self }
@@ -82,6 +83,7 @@ impl Instruction {
         self.byte / Self::TYPE
     }
 
+    // Kept: a function of the bit for these four would need a divisor that isn't 0, and be no shorter than the one expression.
     pub fn is_write(self) -> bool
         ensures { result ≡ Instruction·is_write self }
     {

@@ -3,6 +3,7 @@ ghost use Rattle.std.specs.Prelude.{◌≡◌, [], ◌≤◌, not, ◌==◌, len
 ghost use Rattle.packets.specs.Path.{path_of, kept, path_bytes, same_path};
 
 // A path as it is kept: the last `count` of the bytes; what stands before them is zero.
+// Kept: no heap, and fields 5 to 7 read all twelve bytes (`path_words`); any count is taken, and one above twelve means twelve (`path_bytes`).
 #[derive(Clone, Copy, PartialEq, Eq)]
 pub struct Path {
     pub bytes: [u8; 12],
@@ -29,6 +30,7 @@ impl Path {
     }
 
     // Whether two kept paths are one: all twelve bytes and the count.
+    // Kept: public, and its promise stands in docs/PROMISES.md and `PacketsDetermined` (demands); the code asks by `==`.
     pub fn same(self, other: Path) -> bool
         ensures { result ≡ same_path self other }
     {

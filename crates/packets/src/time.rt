@@ -45,6 +45,7 @@ pub fn time_number(read: Option<Time>) -> u8
 
 // How many octets of seconds the second preamble octet adds, by its bits 1-2, and how many of fraction, by its bits 3-5 (004, 'Draft P-Field
 // format'; bit 0 is the most significant).
+// Kept: one expression each; a function of the places would need a shift that fits, and say less.
 fn added_seconds(octet: u8) -> usize
     ensures { result ≡ octet_bits 1 2 octet }
 {

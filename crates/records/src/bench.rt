@@ -14,6 +14,7 @@ pub enum Stage {
     Over,
 }
 
+// Kept: a public function whose promise docs/PROMISES.md and `RecordsDetermined` (demands) name.
 impl Stage {
     pub fn is_over(self) -> bool
         ensures { result ≡ is_over self }

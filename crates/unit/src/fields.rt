@@ -194,6 +194,7 @@ impl Named {
     }
 
     // Their values, at the start of what can hold sixteen.
+    // Kept: no heap, and a command names up to sixteen; how many it names is `self.count`.
     pub(crate) fn bytes(self, values: [u32; 16]) -> [u8; 64]
         requires { self.count ≤ 16 }
         ensures { take (4 * self.count) result ≡ field_bytes values (named self.address self.count) }

@@ -15,6 +15,7 @@ pub struct Window {
 }
 
 // The first `count` of the table are in use.
+// Kept: no heap; and any count is taken, of which one above sixteen makes the unit unusable (`usable_unit`).
 #[derive(Clone, Copy, Default)]
 pub struct Windows {
     pub table: [Window; 16],
