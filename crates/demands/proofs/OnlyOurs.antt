@@ -97,7 +97,7 @@ module _ (u : TheUnit) (p : Arrived) (lent : Lent) where
 
   abbrev silent_due : Header → Status → Outcome
   silent_due h (Ok done) = ending Obeyed (counted_as 18 (unit_due h)) (memory_due h) lent.reply 0
-  silent_due h (Err offence) = ending (NotObeyed offence) (counted_as 17 u) (refused_on h (Err offence) p lent) lent.reply 0
+  silent_due h (Err offence) = ending (NotObeyed (Err offence)) (counted_as 17 u) (refused_on h (Err offence) p lent) lent.reply 0
 
   -- a time packet
   abbrev time_due : Option TheTime → Outcome
@@ -187,8 +187,9 @@ module _ (u : TheUnit) (p : Arrived) (lent : Lent) where
         by_reading (Unread why) (omega (arith, (unread_number why).0)) exactly is (outcome_is o e unit memory reply)
     is_due TimeThrownAway e exactly ((is, time), (unit, memory, reply)) =
         by_reading TimeThrownAway (omega arith) exactly is (rw time (outcome_is o e unit memory reply))
-    is_due (NotObeyed offence) e exactly ((h, is, asked, d, f, unit, memory), reply) =
-        by_reading (NotObeyed offence) (omega arith) exactly is (rw (asked, ← d) (outcome_is o e unit memory reply))
+    is_due (NotObeyed (Ok done)) e exactly ((h, is, asked, d, f, unit, memory), reply) = absurd (false≢true (sym f))
+    is_due (NotObeyed (Err offence)) e exactly ((h, is, asked, d, f, unit, memory), reply) =
+        by_reading (NotObeyed (Err offence)) (omega arith) exactly is (rw (asked, ← d) (outcome_is o e unit memory reply))
     is_due Obeyed e exactly (k, reply) =
         let x = obeyed 18 false k in
         by_reading Obeyed (omega arith) exactly k.1 (rw (k.2, zero_is (status_due u p k.0) k.3) (outcome_is o e x.0 x.1 reply))

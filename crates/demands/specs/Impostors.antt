@@ -46,7 +46,7 @@ faking takes = record { packet = takes; time_code = take_time_code; ticks = take
 -- It refuses everything: 17 with status 10, counted.
 abbrev pub refuses_all : Terminal
 refuses_all = faking (λ u p lent.
-    leaving (without_reply (NotObeyed NotAuthorised) (counted_unit (NotObeyed NotAuthorised) u)) lent)
+    leaving (without_reply (NotObeyed (Err NotAuthorised)) (counted_unit (NotObeyed (Err NotAuthorised)) u)) lent)
 
 -- It does nothing, and says that it obeyed.
 abbrev pub does_nothing : Terminal

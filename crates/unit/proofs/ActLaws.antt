@@ -1,14 +1,14 @@
 -- Laws of what is done: bytes combined, a byte to be repeated, the last of bytes.
-use Rattle.std.proofs.Common.{◌≡◌, zero-add, append-nil, drop_of_length-le, false, eqb, ◌≢◌, ne_eqb, ℕ, zero, suc, ◌+◌, ◌-◌, ◌<◌, ◌≤◌, List, [], ◌∷◌, length, get_or, take, drop, set, sym, refl, ap, ◌∙◌, add-one, arith, length-take-le}
+use Rattle.std.proofs.Common.{◌≡◌, zero-add, append-nil, drop_of_length-le, false, eqb, ◌≢◌, ne_eqb, ℕ, zero, suc, ◌+◌, ◌-◌, ◌<◌, ◌≤◌, List, [], ◌∷◌, ◌++◌, length, get_or, take, drop, drop_at, replicate, set, sym, refl, ap, ◌∙◌, add-one, arith, length-take-le}
 use lib.Seq.{paste, paste-suc}
 use Rattle.octets.specs.Places.{part, placed}
-use Rattle.octets.proofs.PlaceLaws.{pasted, length_part, placed_after}
+use Rattle.octets.proofs.PlaceLaws.{pasted, length_part, length_placed, part_bytes, part_placed, part_split, placed_after, placed_none}
 use Rattle.packets.specs.Reading.{number_of}
 use Rattle.unit.specs.Fate.{Status, fate_number}
 use Rattle.unit.specs.declared.fate.Fate.{Fate}
 use Rattle.unit.specs.declared.fate.Fate.TheVariants.{TimeChanged, Unusable, NoSuchLink, NoRoom, Unread, TimeThrownAway, NotObeyed, Obeyed, TimeTaken, Replied}
 use Rattle.unit.proofs.FateLaws.{unread_number}
-use Rattle.unit.specs.Act.{combine_byte, combined}
+use Rattle.unit.specs.Act.{combine_byte, combined, last_of}
 
 -- ---- bytes combined, one by one
 
@@ -60,6 +60,52 @@ module _ (rs ds ms : List ℕ) (d : length ds ≡ length rs) (m : length ms ≡ 
   combined_end e =
       let l = length_combined rs ds ms d m in
       e ∙ pasted rs 0 all (length rs) l ∙ rw (drop_of_length-le rs {i = 0 + length all} (omega (arith, l))) (append-nil all)
+
+-- bytes are gathered into a local, combined there, and scattered
+pub combined_between : (p m room : List ℕ) {read new then : List ℕ} (from count at : ℕ) → at + count ≤ length m → from + count + count ≤ length p → count ≤ length room
+    → read ≡ placed 0 (part at count m) room
+    → new ≡ placed 0 (combined (part 0 count read) (part from count p) (part (from + count) count p)) read
+    → then ≡ placed at (part 0 count new) m
+    → then ≡ placed at (combined (part at count m) (part from count p) (part (from + count) count p)) m
+combined_between p m room {read} {new} from count at fits whole few e f g =
+    let was = part at count m in
+    let l = length_part at count m fits in
+    let here : part 0 count read ≡ was =
+    ap (part 0 count) e ∙ ap (λ (n : ℕ). part 0 n (placed 0 was room)) (sym l) ∙ part_placed 0 was room (omega (arith, l)) in
+    let size : length read ≡ length room = ap length e ∙ length_placed 0 was room (omega (arith, l)) in
+    let both = combined was (part from count p) (part (from + count) count p) in
+    let k = length_now p m from count at fits whole in
+    let there : part 0 count new ≡ both =
+    ap (part 0 count) (rw here at f) ∙ ap (λ (n : ℕ). part 0 n (placed 0 both read)) (sym k) ∙ part_placed 0 both read (omega (arith, k, size)) in
+    g ∙ ap (λ (b : List ℕ). placed at b m) there
+
+-- ---- a byte to be repeated
+
+pub byte_gathered : (m : List ℕ) {byte : List ℕ} (at count : ℕ) → at + 1 ≤ length m → byte ≡ placed 0 (part at 1 m) (0 ∷ [])
+    → replicate count (get_or byte 0 0) ≡ replicate count (get_or m at 0)
+byte_gathered m at count h e =
+    ap (λ (b : List ℕ). replicate count (get_or b 0 0)) (e ∙ ap (λ (b : List ℕ). placed 0 b (0 ∷ [])) (part_bytes at 0 m h))
+
+-- ---- the last of bytes
+
+pub last_part : (p : List ℕ) (from count : ℕ) → 1 ≤ count → from + count ≤ length p → last_of (part from count p) ≡ part (from + count - 1) 1 p
+last_part p from count h k =
+    let n = count - 1 in
+    let c : count ≡ n + 1 = omega arith in
+    let e : from + n ≡ from + count - 1 = omega arith in
+    let l : length (part from count p) - 1 ≡ n = omega (arith, length_part from count p k) in
+    let front : length (part from n p) ≡ n = length_part from n p (omega arith) in
+    let s : part from count p ≡ part from n p ++ part (from + count - 1) 1 p = ap (λ (x : ℕ). part from x p) c ∙ part_split from n 1 (from + count - 1) p e in
+    ap (λ (x : ℕ). drop x (part from count p)) l
+    ∙ ap (drop n) s
+    ∙ drop_at (part from n p) (part (from + count - 1) 1 p) n front
+
+pub last_none : (p m : List ℕ) (from count at : ℕ) → count ≡ 0 → m ≡ placed at (last_of (part from count p)) m
+last_none p m from count at e = rw e (sym (placed_none at m))
+
+pub last_scattered : (p m : List ℕ) {then : List ℕ} (from count at : ℕ) → 1 ≤ count → from + count ≤ length p
+    → then ≡ placed at (part (from + count - 1) 1 p) m → then ≡ placed at (last_of (part from count p)) m
+last_scattered p m from count at h l e = e ∙ ap (λ (b : List ℕ). placed at b m) (sym (last_part p from count h l))
 
 -- a part as a slice of the code has it
 pub slice_is : (p : List ℕ) (from count : ℕ) → take (from + count - from) (drop from p) ≡ part from count p

@@ -153,7 +153,7 @@ counted = (refl, refl, refl)
 
 -- 17, 18 (status 0) and 20 carry a status, the others none
 told :
-    (map fate_status (NotObeyed DataCrc ∷ Obeyed ∷ Replied (Ok tt) ∷ Replied (Err PlainDeviceId) ∷ []) ≡ Some 4 ∷ Some 0 ∷ Some 0 ∷ Some 0xF3 ∷ [])
+    (map fate_status (NotObeyed (Err DataCrc) ∷ Obeyed ∷ Replied (Ok tt) ∷ Replied (Err PlainDeviceId) ∷ []) ≡ Some 4 ∷ Some 0 ∷ Some 0 ∷ Some 0xF3 ∷ [])
     × (map fate_status
     (TimeChanged ∷ Unusable ∷ NoSuchLink ∷ NoRoom ∷ Unread Incomplete ∷ Unread UnknownProtocol ∷ Unread ExtendedProtocol ∷ Unread Reply ∷ Unread HeaderCrc
     ∷ TimeThrownAway ∷ TimeTaken ∷ [])

@@ -239,7 +239,7 @@ module _ (u : TheUnit) (h : Header) (path : Path) (p : Arrived) where
 
 -- its fate: 3, 20, 17 with a status that is not 0, or 18
 pub command_fate : (u : TheUnit) (h : Header) (path : Path) (p : Arrived) (lent : Lent) (P : Fate → Type 0)
-    → P NoRoom → ((s : Status) → P (Replied s)) → ((offence : Offence) → P (NotObeyed offence)) → P Obeyed
+    → P NoRoom → ((s : Status) → P (Replied s)) → ((offence : Offence) → P (NotObeyed (Err offence))) → P Obeyed
     → P (take_command u h path p lent).answer.fate
 command_fate u h path p lent P three twenty seventeen eighteen =
     command_is u h path p lent (λ o. P o.answer.fate) three (λ e. either (header_status u h path p.link)) (λ e a. either (data_status_of h p))

@@ -69,7 +69,7 @@ module _ (h : Header) (path : Path) (s : Status) (a : Action) (room : ℕ) where
       → (wants_reply h.instruction ≡ true → room < due → Q (record { fate = NoRoom; status = s; action = Nothing; length = 0 }))
       → (wants_reply h.instruction ≡ true → due ≤ room → Q (record { fate = Replied s; status = s; action = a; length = due }))
       → (wants_reply h.instruction ≡ false → s ≡ Ok tt → Q (record { fate = Obeyed; status = s; action = a; length = 0 }))
-      → (wants_reply h.instruction ≡ false → (offence : Offence) → s ≡ Err offence → Q (record { fate = NotObeyed offence; status = s; action = a; length = 0 }))
+      → (wants_reply h.instruction ≡ false → (offence : Offence) → s ≡ Err offence → Q (record { fate = NotObeyed (Err offence); status = s; action = a; length = 0 }))
       → Q (planned_for h path s a room)
   unfolding planned_for
   planned_is Q none reply obeyed refused = go (wants_reply h.instruction) (ltb room due) s refl refl refl

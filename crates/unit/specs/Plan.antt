@@ -64,7 +64,7 @@ reply_count h = cond (is_rmw (kind_in h)) (rmw_count h) h.length
 -- No reply asked for: 18 obeyed, 17 refused with a status.
 abbrev pub unanswered_fate : Status → Fate
 unanswered_fate (Ok done) = Obeyed
-unanswered_fate (Err offence) = NotObeyed offence
+unanswered_fate (Err offence) = NotObeyed (Err offence)
 
 -- A reply asked for: 20, or 3 where it is longer than the room. 3 goes before any effect.
 abbrev pub answered : Status → Action → ℕ → ℕ → Plan

@@ -428,7 +428,7 @@ fn unanswered(status: Status) -> Fate
 {
     match status {
         Ok(()) => Fate::Obeyed,
-        Err(offence) => Fate::NotObeyed(offence),
+        Err(_) => Fate::NotObeyed(status),
     }
 }
 

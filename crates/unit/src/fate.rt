@@ -35,7 +35,7 @@ pub enum Fate {
     NoRoom,
     Unread(Refusal),
     TimeThrownAway,
-    NotObeyed(Offence),
+    NotObeyed(Status),
     Obeyed,
     TimeTaken,
     Replied(Status),
@@ -75,9 +75,8 @@ impl Fate {
         ensures { result ≡ fate_status self }
     {
         match self {
-            Fate::NotObeyed(offence) => Some(status_byte(Err(offence))),
             Fate::Obeyed => Some(0),
-            Fate::Replied(status) => Some(status_byte(status)),
+            Fate::NotObeyed(status) | Fate::Replied(status) => Some(status_byte(status)),
             Fate::TimeChanged
             | Fate::Unusable
             | Fate::NoSuchLink
