@@ -25,21 +25,21 @@ use packets::{Command, End, Header, Instruction, Kind, Path, Reply};
 
 // ---- the first half: what the header decides
 
-// What a command asks: its header, and its kind, which is looked up once.
+// A command, and its kind, which is looked up once.
 #[derive(Clone, Copy)]
 struct Asked {
-    header: Header,
+    command: Command,
     kind: Kind,
-    ghost kind_is: { kind ≡ kind_in header },
+    ghost kind_is: { kind ≡ kind_in command.header },
 }
 
-impl From<Header> for Asked {
-    ghost from_gives = { λ header asked. asked.header ≡ header };
+impl From<Command> for Asked {
+    ghost from_gives = { λ command asked. asked.command ≡ command };
 
-    fn from(header: Header) -> Asked {
+    fn from(command: Command) -> Asked {
         Asked {
-            header,
-            kind: header.instruction.kind(),
+            command,
+            kind: command.header.instruction.kind(),
         }
     }
 }
@@ -47,9 +47,9 @@ impl From<Header> for Asked {
 impl Asked {
     // The checks that RMAP and plug-and-play share: unused type or code, key, logical address.
     fn opening_status(self, key: u8, logical: u8) -> Status
-        ensures { result ≡ Decide·opening_status self.header key logical }
+        ensures { result ≡ Decide·opening_status self.command.header key logical }
     {
-        let h = self.header;
+        let h = self.command.header;
         let i = h.instruction;
         if i.packet_type() != 1 {
             return Err(Offence::UnusedCode);
@@ -68,9 +68,9 @@ impl Asked {
 
     // How many bytes of memory a command speaks of.
     fn span_size(self) -> u32
-        ensures { result ≡ Decide·span_size self.header }
+        ensures { result ≡ Decide·span_size self.command.header }
     {
-        let h = self.header;
+        let h = self.command.header;
         if self.kind == Kind::ReadModifyWrite {
             return h.length / 2;
         }
@@ -81,9 +81,9 @@ impl Asked {
     }
 
     fn is_authorised(self, windows: Windows) -> bool
-        ensures { result ≡ Decide·is_authorised windows self.header }
+        ensures { result ≡ Decide·is_authorised windows self.command.header }
     {
-        let h = self.header;
+        let h = self.command.header;
         if h.extended != 0 {
             return false;
         }
@@ -93,9 +93,9 @@ impl Asked {
 
     // The checks of RMAP behind the opening.
     fn span_status(self, windows: Windows) -> Status
-        ensures { result ≡ Decide·span_status windows self.header }
+        ensures { result ≡ Decide·span_status windows self.command.header }
     {
-        let h = self.header;
+        let h = self.command.header;
         let i = h.instruction;
         if (self.kind == Kind::ReadModifyWrite) & ((8 < h.length) | (h.length % 2 != 0)) {
             return Err(Offence::RmwLength);
@@ -111,9 +111,9 @@ impl Asked {
 
     // Whether it is one of the commands that fields know.
     fn names_fields(self) -> bool
-        ensures { result ≡ Decide·names_fields self.header }
+        ensures { result ≡ Decide·names_fields self.command.header }
     {
-        let h = self.header;
+        let h = self.command.header;
         let code = h.instruction.code();
         (h.extended == 0)
             & ((code == 0b1111) | (code == 0b0011) | (code == 0b0111))
@@ -122,10 +122,10 @@ impl Asked {
     }
 
     // The checks of plug-and-play behind the opening.
-    fn fields_status(self, owner: Owner, path: Path, link: u8) -> Status
-        ensures { result ≡ Decide·fields_status owner self.header path link }
+    fn fields_status(self, owner: Owner, link: u8) -> Status
+        ensures { result ≡ Decide·fields_status owner self.command.header self.command.path link }
     {
-        let h = self.header;
+        let h = self.command.header;
         if !self.names_fields() {
             return Err(Offence::NotAuthorised);
         }
@@ -139,7 +139,7 @@ impl Asked {
         offence_in(self.kind, named)?;
         let sender = Sender {
             initiator: h.initiator,
-            path,
+            path: self.command.path,
             link,
         };
         if !is_allowed(self.kind, owner, sender) {
@@ -148,16 +148,16 @@ impl Asked {
         Ok(())
     }
 
-    fn header_status(self, unit: Unit, path: Path, link: u8) -> Status
-        ensures { result ≡ Decide·header_status unit self.header path link }
+    fn header_status(self, unit: Unit, link: u8) -> Status
+        ensures { result ≡ Decide·header_status unit self.command.header self.command.path link }
     {
-        let h = self.header;
+        let h = self.command.header;
         if h.protocol == 0x01 {
             self.opening_status(unit.key, unit.logical)?;
             return self.span_status(unit.windows);
         }
         self.opening_status(0x00, 0xFE)?;
-        self.fields_status(unit.owner, path, link)
+        self.fields_status(unit.owner, link)
     }
 }
 
@@ -207,9 +207,9 @@ fn is_allowed(kind: Kind, owner: Owner, sender: Sender) -> bool
 impl Asked {
     // How many bytes a command wants after its header.
     fn wanted_count(self) -> usize
-        ensures { result ≡ Decide·wanted_count self.header }
+        ensures { result ≡ Decide·wanted_count self.command.header }
     {
-        let h = self.header;
+        let h = self.command.header;
         if self.kind == Kind::Read {
             return 0;
         }
@@ -284,9 +284,9 @@ pub struct Plan {
 impl Asked {
     // What an RMAP command does that its header allows. `from` is where its data begin in the packet, k how many bytes come there.
     fn memory_action(self, status: Status, from: usize, k: usize) -> Action
-        ensures { result ≡ Plan·memory_action self.header status from k }
+        ensures { result ≡ Plan·memory_action self.command.header status from k }
     {
-        let h = self.header;
+        let h = self.command.header;
         let i = h.instruction;
         let at = h.address as usize;
         let n = h.length as usize;
@@ -300,10 +300,10 @@ impl Asked {
 
     // What a plug-and-play command does that its header allows.
     fn field_action(self, status: Status, bytes: &[u8], from: usize) -> Action
-        requires { is_success status ≡ true → WordsThere (kind_in self.header) from (length bytes.now) }
-        ensures { result ≡ Plan·field_action self.header status bytes.now from }
+        requires { is_success status ≡ true → WordsThere (kind_in self.command.header) from (length bytes.now) }
+        ensures { result ≡ Plan·field_action self.command.header status bytes.now from }
     {
-        let h = self.header;
+        let h = self.command.header;
         if status.is_err() {
             return Action::Nothing;
         }
@@ -320,9 +320,9 @@ impl Asked {
 
     // How many bytes of data go with the reply to an obeyed command that has data.
     fn reply_count(self) -> u32
-        ensures { result ≡ Plan·reply_count self.header }
+        ensures { result ≡ Plan·reply_count self.command.header }
     {
-        let h = self.header;
+        let h = self.command.header;
         if self.kind == Kind::ReadModifyWrite {
             return h.length / 2;
         }
@@ -330,10 +330,10 @@ impl Asked {
     }
 
     // The plan for a command with a status. Where a reply is due that has no room, nothing is done at all.
-    fn planned(self, path: Path, status: Status, action: Action, room: usize) -> Plan
-        ensures { result ≡ planned_for self.header path status action room }
+    fn planned(self, status: Status, action: Action, room: usize) -> Plan
+        ensures { result ≡ planned_for self.command.header self.command.path status action room }
     {
-        let h = self.header;
+        let h = self.command.header;
         if !h.instruction.wants_reply() {
             return Plan {
                 fate: unanswered(status),
@@ -343,7 +343,7 @@ impl Asked {
             };
         }
         let reply = Reply {
-            command: Command { header: h, path },
+            command: self.command,
             status: status_byte(status),
         };
         let length = reply.length(self.reply_count());
@@ -363,22 +363,23 @@ impl Asked {
         }
     }
 
-    // The second half, where the header allows the command: from its bytes, and the CRC of those behind the header.
-    fn decide_by_data(self, path: Path, bytes: &[u8], crc: u8, end: End, room: usize) -> Plan
-        requires whole { header_size self.header.instruction ≤ length bytes.now }
-        requires words { (self.header.protocol ≢ 0x01) → is_success (data_status_on self.header (record { bytes = bytes.now; came = length bytes.now; data_crc = crc }) end) ≡ true → WordsThere (kind_in self.header) (header_size self.header.instruction) (length bytes.now) }
-        ensures { result ≡ decided_by_data self.header path (record { bytes = bytes.now; came = length bytes.now; data_crc = crc }) (data_status_on self.header (record { bytes = bytes.now; came = length bytes.now; data_crc = crc }) end) room }
+    // The second half, where the header allows the command: from the bytes at hand, how many came in all, and the CRC of those behind the header.
+    // Kept: `came` beside the bytes, since `AtHand` (specs/Decide) is of a packet of which all or only the first are at hand.
+    fn decide_by_data(self, bytes: &[u8], came: usize, crc: u8, end: End, room: usize) -> Plan
+        requires whole { header_size self.command.header.instruction ≤ came }
+        requires words { (self.command.header.protocol ≢ 0x01) → is_success (data_status_on self.command.header (record { bytes = bytes.now; came = came; data_crc = crc }) end) ≡ true → WordsThere (kind_in self.command.header) (header_size self.command.header.instruction) (length bytes.now) }
+        ensures { result ≡ decided_by_data self.command.header self.command.path (record { bytes = bytes.now; came = came; data_crc = crc }) (data_status_on self.command.header (record { bytes = bytes.now; came = came; data_crc = crc }) end) room }
     {
-        let h = self.header;
+        let h = self.command.header;
         let from = h.instruction.header_size();
-        let k = bytes.len() - from;
+        let k = came - from;
         let status = data_status(k, crc, self.wanted_count(), end);
         if h.protocol == 0x01 {
             let action = self.memory_action(status, from, k);
-            return self.planned(path, status, action, room);
+            return self.planned(status, action, room);
         }
         let action = self.field_action(status, bytes, from);
-        self.planned(path, status, action, room)
+        self.planned(status, action, room)
     }
 }
 
@@ -437,14 +438,13 @@ pub(crate) fn decide(unit: Unit, command: Command, arrived: Arrived, room: usize
     requires { header_size command.header.instruction ≤ length arrived.packet.now }
     ensures { result ≡ decided unit command.header command.path (record { packet = arrived.entry.packet.now; end = arrived.entry.end; link = arrived.entry.link }) room }
 {
-    let path = command.path;
-    let asked = Asked::from(command.header);
-    let first = asked.header_status(unit, path, arrived.link);
+    let asked = Asked::from(command);
+    let first = asked.header_status(unit, arrived.link);
     if first.is_err() {
-        return asked.planned(path, first, Action::Nothing, room);
+        return asked.planned(first, Action::Nothing, room);
     }
     let Arrived { packet, end, .. } = arrived;
     let from = command.header.instruction.header_size();
     let crc = data_crc(&packet[from..], asked.wanted_count(), end);
-    asked.decide_by_data(path, packet, crc, end, room)
+    asked.decide_by_data(packet, packet.len(), crc, end, room)
 }

@@ -6,7 +6,7 @@ use Rattle.unit.proofs.decide.Asked.names_fields.Goals as goal
 
 pub overflow_add-result : goal.overflow_add-result
 overflow_add-result c =
-    let m = field_count_most c.args.self.kind c.args.self.header.length in
+    let m = field_count_most c.args.self.kind c.args.self.command.header.length in
     omega (arith, m, c.field_count.ensures)
 
 pub returns : goal.returns
