@@ -22,11 +22,10 @@ pub(crate) struct Sender {
     pub link: u8,
 }
 
-impl Owner {
-    // Kept: a derived Default says of the path only that each of its twelve bytes is 0, and `default ≡ unowned` didn't close.
-    fn none() -> Owner
-        ensures { result ≡ unowned }
-    {
+impl Default for Owner {
+    ghost is_default = { λ owner. owner ≡ unowned };
+
+    fn default() -> Owner {
         Owner {
             device: 0,
             initiator: 0,
@@ -34,7 +33,9 @@ impl Owner {
             link: 0,
         }
     }
+}
 
+impl Owner {
     // Whether the sender of a command is the owner.
     pub(crate) fn is(self, sender: Sender) -> bool
         ensures { result ≡ is_owner self sender.initiator sender.path sender.link }
@@ -56,7 +57,7 @@ impl Owner {
             return self.claim(new, sender);
         }
         if new == 0 {
-            return Owner::none();
+            return Owner::default();
         }
         Owner {
             device: new,

@@ -1,7 +1,7 @@
 -- `unit::calls::take_packet` meets its contract: as it is read, it is judged, then done; the places are there by what a judgement allows.
 use Rattle.unit.specs.Calls.{take_packet}
 use Rattle.unit.proofs.GrantLaws.{judged_allowed}
-use Rattle.std.proofs.Common.{length}
+use Rattle.std.proofs.Common.{length, rules}
 use Rattle.unit.proofs.calls.take_packet.Goals as goal
 
 pub carry_out-requires : goal.carry_out-requires
@@ -13,4 +13,5 @@ carry_out-requires c =
 pub returns : goal.returns
 unfolding take_packet
 returns c =
-    rw (← c.bare-bytes.ensures, ← c.judge_read-ruling.ensures) c.carry_out.ensures
+    let lent = c.carry_out.ensures.same_lent in
+    rw (← c.bare-bytes.ensures, ← c.judge_read-ruling.ensures) (search (rules, c.carry_out.ensures.does, lent.memory, lent.reply))
