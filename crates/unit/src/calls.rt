@@ -4,13 +4,13 @@ ghost use Rattle.unit.specs.Granted.{GrantedBy, GrantedTo, SameLent};
 ghost use Rattle.unit.specs.Act.{counted_unit, with_clock};
 ghost use Rattle.unit.specs.Calls.{without_reply as Calls·without_reply, small_call as Calls·small_call, acted, done, take_packet as Calls·take_packet, take_time_code as Calls·take_time_code, take_ticks as Calls·take_ticks};
 
+use crate::act;
 use crate::clock::Clock;
 use crate::decide::Plan;
 use crate::fate::Fate;
 use crate::judging::{Arrived, Ruling, Sizes, judge_read};
 use crate::owner::Sender;
 use crate::unit::Unit;
-use crate::{act, clock};
 use packets::{Command, End};
 
 // The unit after the call, what became of it, and how many bytes of the reply buffer are the reply.
@@ -37,12 +37,7 @@ pub fn take_packet(
         memory: memory.len(),
         reply: reply.len(),
     };
-    let bytes = packets::bare(packet);
-    let arrived = Arrived {
-        packet: bytes,
-        end,
-        link,
-    };
+    let arrived = Arrived::of(packet, end, link);
     let ruling = judge_read(unit, arrived, sizes);
     let mut lent = Lent { memory, reply };
     carry_out(ruling, unit, arrived, &mut lent)
@@ -52,14 +47,14 @@ pub fn take_packet(
 pub fn take_time_code(unit: Unit, byte: u8) -> Answer
     ensures { result ≡ Calls·take_time_code unit byte }
 {
-    small_call(unit, clock::take_code(unit.clock, byte))
+    small_call(unit, unit.clock.take_code(byte))
 }
 
 // Takes a number of clock ticks.
 pub fn take_ticks(unit: Unit, ticks: u32) -> Answer
     ensures { result ≡ Calls·take_ticks unit ticks }
 {
-    small_call(unit, clock::add_ticks(unit.clock, ticks))
+    small_call(unit, unit.clock.add_ticks(ticks))
 }
 
 // A unit that is usable goes on with that clock.
@@ -87,7 +82,7 @@ fn without_reply(unit: Unit, fate: Fate) -> Answer
 fn ended(unit: Unit, fate: Fate) -> Answer
     ensures { result ≡ Calls·without_reply fate (counted_unit fate unit) }
 {
-    without_reply(act::count(unit, fate), fate)
+    without_reply(unit.count(fate), fate)
 }
 
 // What is lent to a call: memory, and the buffer for the reply.
@@ -106,7 +101,7 @@ fn carry_out(ruling: Ruling, unit: Unit, arrived: Arrived, lent: &mut Lent) -> A
     match ruling {
         Ruling::Ends(fate) => ended(unit, fate),
         Ruling::SetsTime(time) => {
-            let clock = clock::set_time(unit.clock, time);
+            let clock = unit.clock.set_time(time);
             ended(Unit { clock, ..unit }, Fate::TimeTaken)
         }
         Ruling::Planned(command, plan) => follow(plan, unit, command, arrived, lent),
@@ -123,14 +118,9 @@ fn follow(plan: Plan, unit: Unit, command: Command, arrived: Arrived, lent: &mut
     let reply = &mut *lent.reply;
     act::respond(plan, unit, command, arrived.link, memory, reply);
     act::store(plan.action, arrived.packet, memory);
-    let sender = Sender {
-        initiator: command.header.initiator,
-        path: command.path,
-        link: arrived.link,
-    };
-    let changed = act::change(unit, plan.action, sender);
+    let sender = Sender::of(command, arrived.link);
     Answer {
-        unit: act::count(changed, plan.fate),
+        unit: unit.change(plan.action, sender).count(plan.fate),
         fate: plan.fate,
         length: plan.length,
     }

@@ -2,7 +2,7 @@
 ghost use Rattle.std.specs.Prelude.{◌≡◌};
 ghost use Rattle.unit.specs.Owner.{is_owner, unowned, claimed, swapped};
 
-use packets::Path;
+use packets::{Command, Path};
 
 // Device ID, 0 where nobody owns the unit; and initiator address, reply path and link of the claim.
 // Kept: flat, with no `Sender` in it; callers write the fields of this public type, and `swap_claims` and `swap_releases` say them.
@@ -20,6 +20,19 @@ pub(crate) struct Sender {
     pub initiator: u8,
     pub path: Path,
     pub link: u8,
+}
+
+impl Sender {
+    // Of a command that came on that link.
+    pub(crate) fn of(command: Command, link: u8) -> Sender
+        ensures { result ≡ (record { initiator = command.header.initiator; path = command.path; link = link }) }
+    {
+        Sender {
+            initiator: command.header.initiator,
+            path: command.path,
+            link,
+        }
+    }
 }
 
 impl Default for Owner {

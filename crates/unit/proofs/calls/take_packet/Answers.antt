@@ -8,10 +8,10 @@ pub carry_out-requires : goal.carry_out-requires
 carry_out-requires c =
     let a = c.args in
     rw c.judge_read-ruling.ensures
-    (judged_allowed a.unit (record { packet = c.bare-bytes.result.now; end = a.end; link = a.link }) (record { memory = length a.memory.now; reply = length a.reply.now }))
+    (judged_allowed a.unit (record { packet = c.of-arrived.result.packet.now; end = c.of-arrived.result.end; link = c.of-arrived.result.link }) (record { memory = length a.memory.now; reply = length a.reply.now }))
 
 pub returns : goal.returns
 unfolding take_packet
 returns c =
     let lent = c.carry_out.ensures.same_lent in
-    rw (← c.bare-bytes.ensures, ← c.judge_read-ruling.ensures) (search (rules, c.carry_out.ensures.does, lent.memory, lent.reply))
+    rw (← c.of-arrived.ensures, ← c.judge_read-ruling.ensures) (search (rules, c.carry_out.ensures.does, lent.memory, lent.reply))
