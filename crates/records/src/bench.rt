@@ -3,7 +3,6 @@ ghost use Rattle.std.specs.Prelude.{◌≡◌};
 ghost use Rattle.records.specs.Log.{bench_unit as Log·bench_unit, start_bench};
 ghost use Rattle.records.specs.Run.{is_over};
 
-use packets::Path;
 use unit::{Clock, Fields, Owner, Unit, Window, Windows};
 
 // How far the text has got: nothing printed, the heading printed, all printed.
@@ -55,12 +54,6 @@ fn bench_unit() -> Unit
         read: true,
         write: true,
     };
-    let owner = Owner {
-        device: 0,
-        initiator: 0,
-        path: Path::none(),
-        link: 0,
-    };
     Unit {
         logical: 0x43,
         key: 0x2A,
@@ -68,8 +61,8 @@ fn bench_unit() -> Unit
         links: 4,
         windows: Windows { table, count: 1 },
         fields: Fields::default(),
-        owner,
+        owner: Owner::default(),
         clock: Clock::default(),
-        counters: [0u32; 11],
+        counters: [0; 11],
     }
 }

@@ -12,11 +12,11 @@ ghost use Rattle.unit.specs.Fields.{field_of, named, values_of, field_bytes};
 use crate::counters::counted;
 use crate::decide::{Action, Plan};
 use crate::fate::{Fate, status_byte};
+use crate::fields;
 use crate::fields::Named;
 use crate::memory::{gather, scatter};
 use crate::owner::Sender;
 use crate::unit::Unit;
-use crate::{clock, fields};
 use octets::Octets;
 use packets::{Command, Data, Reply};
 
@@ -90,7 +90,7 @@ fn byte_at(memory: &[u8], at: usize, count: u32) -> u8
     if count == 0 {
         return 0;
     }
-    let mut byte = [0u8; 1];
+    let mut byte = [0; 1];
     gather(memory, at, &mut byte);
     byte[0]
 }
@@ -146,7 +146,7 @@ fn combine(bytes: &[u8], masks: &[u8], memory: &mut [u8], at: usize)
     requires { (at + length bytes.now ≤ length memory.old) × (length masks.now ≡ length bytes.now) × (length bytes.now ≤ 4) }
     ensures { memory.new ≡ placed at (combined (part at (length bytes.now) memory.old) bytes.now masks.now) memory.old }
 {
-    let mut room = [0u8; 4];
+    let mut room = [0; 4];
     let read = &mut room[..bytes.len()];
     gather(memory, at, read);
     combine_with(bytes, masks, read);
@@ -171,46 +171,48 @@ fn combine_byte(mask: u8, byte: u8, read: u8) -> u8
 
 // ---- the unit
 
-// After an action of that sender.
-pub(crate) fn change(unit: Unit, action: Action, sender: Sender) -> Unit
-    ensures { result ≡ changed action unit sender.initiator sender.path sender.link }
-{
-    match action {
-        Action::Nothing
-        | Action::ReadMemory(_, _)
-        | Action::RepeatByte(_, _)
-        | Action::Store(_, _, _)
-        | Action::StoreLast(_, _, _)
-        | Action::Combine(_, _, _)
-        | Action::ReadFields(_, _) => unit,
-        Action::Swap(new, expected) => {
-            let owner = unit.owner.swap(new, expected, sender);
-            Unit { owner, ..unit }
+impl Unit {
+    // After an action of that sender.
+    pub(crate) fn change(self, action: Action, sender: Sender) -> Unit
+        ensures { result ≡ changed action self sender.initiator sender.path sender.link }
+    {
+        match action {
+            Action::Nothing
+            | Action::ReadMemory(_, _)
+            | Action::RepeatByte(_, _)
+            | Action::Store(_, _, _)
+            | Action::StoreLast(_, _, _)
+            | Action::Combine(_, _, _)
+            | Action::ReadFields(_, _) => self,
+            Action::Swap(new, expected) => {
+                let owner = self.owner.swap(new, expected, sender);
+                Unit { owner, ..self }
+            }
+            Action::WriteField(address, word) => self.write_field(address, word),
         }
-        Action::WriteField(address, word) => write_field(unit, address, word),
     }
-}
 
-// Time-Code counter and divider are the fields that are written.
-fn write_field(unit: Unit, address: u32, word: u32) -> Unit
-    ensures { result ≡ field_written unit address word }
-{
-    match fields::row_of(address) {
-        Some(fields::TIME_CODE_COUNTER) => {
-            let clock = clock::write_time_code(unit.clock, word);
-            Unit { clock, ..unit }
+    // Time-Code counter and divider are the fields that are written.
+    fn write_field(self, address: u32, word: u32) -> Unit
+        ensures { result ≡ field_written self address word }
+    {
+        match fields::row_of(address) {
+            Some(fields::TIME_CODE_COUNTER) => {
+                let clock = self.clock.write_time_code(word);
+                Unit { clock, ..self }
+            }
+            Some(fields::DIVIDER) => {
+                let fields = self.fields.write_divider(word);
+                Unit { fields, ..self }
+            }
+            _ => self,
         }
-        Some(fields::DIVIDER) => {
-            let fields = fields::write_divider(unit.fields, word);
-            Unit { fields, ..unit }
-        }
-        _ => unit,
     }
-}
 
-pub(crate) fn count(unit: Unit, fate: Fate) -> Unit
-    ensures { result ≡ counted_unit fate unit }
-{
-    let counters = counted(unit.counters, fate);
-    Unit { counters, ..unit }
+    pub(crate) fn count(self, fate: Fate) -> Unit
+        ensures { result ≡ counted_unit fate self }
+    {
+        let counters = counted(self.counters, fate);
+        Unit { counters, ..self }
+    }
 }

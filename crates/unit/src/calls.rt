@@ -1,16 +1,16 @@
 // The three calls on a unit (document 01, 'The terminal and its neighbours', 'Numbers a caller gets').
 ghost use Rattle.std.specs.Prelude.{◌≡◌, length};
-ghost use Rattle.unit.specs.Granted.{GrantedBy, GrantedTo};
+ghost use Rattle.unit.specs.Granted.{GrantedBy, GrantedTo, SameLent};
 ghost use Rattle.unit.specs.Act.{counted_unit, with_clock};
 ghost use Rattle.unit.specs.Calls.{without_reply as Calls·without_reply, small_call as Calls·small_call, acted, done, take_packet as Calls·take_packet, take_time_code as Calls·take_time_code, take_ticks as Calls·take_ticks};
 
+use crate::act;
 use crate::clock::Clock;
 use crate::decide::Plan;
 use crate::fate::Fate;
 use crate::judging::{Arrived, Ruling, Sizes, judge_read};
 use crate::owner::Sender;
 use crate::unit::Unit;
-use crate::{act, clock};
 use packets::{Command, End};
 
 // The unit after the call, what became of it, and how many bytes of the reply buffer are the reply.
@@ -37,28 +37,24 @@ pub fn take_packet(
         memory: memory.len(),
         reply: reply.len(),
     };
-    let bytes = packets::bare(packet);
-    let arrived = Arrived {
-        packet: bytes,
-        end,
-        link,
-    };
+    let arrived = Arrived::of(packet, end, link);
     let ruling = judge_read(unit, arrived, sizes);
-    carry_out(ruling, unit, arrived, memory, reply)
+    let mut lent = Lent { memory, reply };
+    carry_out(ruling, unit, arrived, &mut lent)
 }
 
 // Takes a Time-Code: its low six bits.
 pub fn take_time_code(unit: Unit, byte: u8) -> Answer
     ensures { result ≡ Calls·take_time_code unit byte }
 {
-    small_call(unit, clock::take_code(unit.clock, byte))
+    small_call(unit, unit.clock.take_code(byte))
 }
 
 // Takes a number of clock ticks.
 pub fn take_ticks(unit: Unit, ticks: u32) -> Answer
     ensures { result ≡ Calls·take_ticks unit ticks }
 {
-    small_call(unit, clock::add_ticks(unit.clock, ticks))
+    small_call(unit, unit.clock.add_ticks(ticks))
 }
 
 // A unit that is usable goes on with that clock.
@@ -86,53 +82,45 @@ fn without_reply(unit: Unit, fate: Fate) -> Answer
 fn ended(unit: Unit, fate: Fate) -> Answer
     ensures { result ≡ Calls·without_reply fate (counted_unit fate unit) }
 {
-    without_reply(act::count(unit, fate), fate)
+    without_reply(unit.count(fate), fate)
+}
+
+// What is lent to a call: memory, and the buffer for the reply.
+#[derive(Drop)]
+struct Lent<'a> {
+    memory: &'a mut [u8],
+    reply: &'a mut [u8],
 }
 
 // Does what was judged that a packet comes to.
-// Kept: memory and reply buffer apart; handed on in a struct, what `follow` left of them was no longer tied to what this leaves (`returns-in-Planned`).
-fn carry_out(
-    ruling: Ruling,
-    unit: Unit,
-    arrived: Arrived,
-    memory: &mut [u8],
-    reply: &mut [u8],
-) -> Answer
-    requires { GrantedBy ruling (length arrived.packet.now) (length memory.old) (length reply.old) }
-    ensures { record { answer = result; memory = memory.new; reply = reply.new } ≡ done ruling unit arrived.entry.packet.now arrived.entry.link (record { memory = memory.old; reply = reply.old }) }
+fn carry_out(ruling: Ruling, unit: Unit, arrived: Arrived, lent: &mut Lent) -> Answer
+    requires { GrantedBy ruling (length arrived.packet.now) (length lent.old.memory.now) (length lent.old.reply.now) }
+    ensures same_lent { SameLent lent.old lent.new }
+    ensures does { record { answer = result; memory = lent.new.memory.now; reply = lent.new.reply.now } ≡ done ruling unit arrived.entry.packet.now arrived.entry.link (record { memory = lent.old.memory.now; reply = lent.old.reply.now }) }
 {
     match ruling {
         Ruling::Ends(fate) => ended(unit, fate),
         Ruling::SetsTime(time) => {
-            let clock = clock::set_time(unit.clock, time);
+            let clock = unit.clock.set_time(time);
             ended(Unit { clock, ..unit }, Fate::TimeTaken)
         }
-        Ruling::Planned(command, plan) => follow(plan, unit, command, arrived, memory, reply),
+        Ruling::Planned(command, plan) => follow(plan, unit, command, arrived, lent),
     }
 }
 
 // Follows the plan for a command. The reply goes first, since it tells what was there before.
-fn follow(
-    plan: Plan,
-    unit: Unit,
-    command: Command,
-    arrived: Arrived,
-    memory: &mut [u8],
-    reply: &mut [u8],
-) -> Answer
-    requires { GrantedTo plan command.header command.path (length arrived.packet.now) (length memory.old) (length reply.old) }
-    ensures { record { answer = result; memory = memory.new; reply = reply.new } ≡ acted plan unit command.header command.path arrived.entry.packet.now arrived.entry.link (record { memory = memory.old; reply = reply.old }) }
+fn follow(plan: Plan, unit: Unit, command: Command, arrived: Arrived, lent: &mut Lent) -> Answer
+    requires { GrantedTo plan command.header command.path (length arrived.packet.now) (length lent.old.memory.now) (length lent.old.reply.now) }
+    ensures same_lent { SameLent lent.old lent.new }
+    ensures does { record { answer = result; memory = lent.new.memory.now; reply = lent.new.reply.now } ≡ acted plan unit command.header command.path arrived.entry.packet.now arrived.entry.link (record { memory = lent.old.memory.now; reply = lent.old.reply.now }) }
 {
+    let memory = &mut *lent.memory;
+    let reply = &mut *lent.reply;
     act::respond(plan, unit, command, arrived.link, memory, reply);
     act::store(plan.action, arrived.packet, memory);
-    let sender = Sender {
-        initiator: command.header.initiator,
-        path: command.path,
-        link: arrived.link,
-    };
-    let changed = act::change(unit, plan.action, sender);
+    let sender = Sender::of(command, arrived.link);
     Answer {
-        unit: act::count(changed, plan.fate),
+        unit: unit.change(plan.action, sender).count(plan.fate),
         fate: plan.fate,
         length: plan.length,
     }

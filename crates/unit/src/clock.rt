@@ -28,57 +28,92 @@ const CODE: u64 = 0x4_0000;
 
 pub(crate) const TIMES: u64 = 0x100_0000_0000_0000;
 
-// A time packet: at once, or waiting from now on.
-pub(crate) fn set_time(clock: Clock, time: Time) -> Clock
-    ensures { result ≡ after_time clock time }
-{
-    let sent = Elapsed {
-        value: time.value,
-        epoch: time.epoch,
-    };
-    match time.when {
-        When::AtWrap => Clock {
-            waiting: Some(sent),
-            ..clock
-        },
-        When::AtOnce => Clock {
-            elapsed: sent,
-            waiting: None,
-            ..clock
-        },
+impl Clock {
+    // A time packet: at once, or waiting from now on.
+    pub(crate) fn set_time(self, time: Time) -> Clock
+        ensures { result ≡ after_time self time }
+    {
+        let sent = Elapsed {
+            value: time.value,
+            epoch: time.epoch,
+        };
+        match time.when {
+            When::AtWrap => Clock {
+                waiting: Some(sent),
+                ..self
+            },
+            When::AtOnce => Clock {
+                elapsed: sent,
+                waiting: None,
+                ..self
+            },
+        }
+    }
+
+    // A Time-Code, of which the low six bits count.
+    pub(crate) fn take_code(self, byte: u8) -> Clock
+        ensures { result ≡ after_code self (byte % 2 ^ 6) }
+    {
+        let v = byte % 64;
+        if (self.last == 63) & (v == 0) {
+            return Clock {
+                last: v,
+                elapsed: self.elapsed.wrapped(self.waiting),
+                waiting: None,
+            };
+        }
+        if v as u32 == self.last as u32 + 1 {
+            return Clock {
+                last: v,
+                elapsed: self.elapsed.with_fraction(v),
+                ..self
+            };
+        }
+        Clock { last: v, ..self }
+    }
+
+    pub(crate) fn add_ticks(self, ticks: u32) -> Clock
+        ensures { result ≡ after_ticks self ticks }
+    {
+        let elapsed = Elapsed {
+            value: sum56(self.elapsed.value, ticks),
+            ..self.elapsed
+        };
+        Clock { elapsed, ..self }
+    }
+
+    // A write to the Time-Code counter: a whole word of 0 resets it.
+    pub(crate) fn write_time_code(self, word: u32) -> Clock
+        ensures { result ≡ time_code_written self word }
+    {
+        if word != 0 {
+            return self;
+        }
+        Clock { last: 0, ..self }
     }
 }
 
-// A Time-Code, of which the low six bits count.
-pub(crate) fn take_code(clock: Clock, byte: u8) -> Clock
-    ensures { result ≡ after_code clock (byte % 2 ^ 6) }
-{
-    let v = byte % 64;
-    if (clock.last == 63) & (v == 0) {
-        return Clock {
-            last: v,
-            elapsed: wrapped(clock.elapsed, clock.waiting),
-            waiting: None,
-        };
+impl Elapsed {
+    // A value that waits becomes ET; else ET goes to the nearest second.
+    fn wrapped(self, waiting: Option<Elapsed>) -> Elapsed
+        ensures { result ≡ at_wrap self waiting }
+    {
+        waiting.unwrap_or(Elapsed {
+            value: nearest_second(self.value),
+            ..self
+        })
     }
-    if v as u32 == clock.last as u32 + 1 {
-        return Clock {
-            last: v,
-            elapsed: with_fraction(clock.elapsed, v),
-            ..clock
-        };
-    }
-    Clock { last: v, ..clock }
-}
 
-// A value that waits becomes ET; else ET goes to the nearest second.
-fn wrapped(elapsed: Elapsed, waiting: Option<Elapsed>) -> Elapsed
-    ensures { result ≡ at_wrap elapsed waiting }
-{
-    waiting.unwrap_or(Elapsed {
-        value: nearest_second(elapsed.value),
-        ..elapsed
-    })
+    // The top six bits of the fraction become v and the rest 0.
+    fn with_fraction(self, v: u8) -> Elapsed
+        requires { v < 2 ^ 6 }
+        ensures { result ≡ fraction_set self v }
+    {
+        Elapsed {
+            value: self.value / SECOND * SECOND + v as u64 * CODE,
+            ..self
+        }
+    }
 }
 
 // A second that is half over is taken to end with the wrap, since the oscillator is slow; one that is not, to begin with it, since the oscillator is fast.
@@ -90,37 +125,6 @@ fn nearest_second(et: u64) -> u64
         return seconds * SECOND;
     }
     (seconds + 1) % 0x1_0000_0000 * SECOND
-}
-
-// The top six bits of the fraction become v and the rest 0.
-fn with_fraction(elapsed: Elapsed, v: u8) -> Elapsed
-    requires { v < 2 ^ 6 }
-    ensures { result ≡ fraction_set elapsed v }
-{
-    Elapsed {
-        value: elapsed.value / SECOND * SECOND + v as u64 * CODE,
-        ..elapsed
-    }
-}
-
-pub(crate) fn add_ticks(clock: Clock, ticks: u32) -> Clock
-    ensures { result ≡ after_ticks clock ticks }
-{
-    let elapsed = Elapsed {
-        value: sum56(clock.elapsed.value, ticks),
-        ..clock.elapsed
-    };
-    Clock { elapsed, ..clock }
-}
-
-// A write to the Time-Code counter: a whole word of 0 resets it.
-pub(crate) fn write_time_code(clock: Clock, word: u32) -> Clock
-    ensures { result ≡ time_code_written clock word }
-{
-    if word != 0 {
-        return clock;
-    }
-    Clock { last: 0, ..clock }
 }
 
 // Modulo 2^56.

@@ -7,19 +7,17 @@ use crate::fate::Fate;
 pub(crate) fn counted(counters: [u32; 11], fate: Fate) -> [u32; 11]
     ensures { result ≡ counted_for fate counters }
 {
-    let n = fate.number();
-    if n < 11 {
-        return counters;
+    match fate.number().checked_sub(11) {
+        None => counters,
+        Some(place) => bumped(bumped(counters, place as usize), 10),
     }
-    bumped(bumped(counters, n as usize - 11), 10)
 }
 
 // Modulo 2^32: 4,294,967,295 rolls over to 0.
-fn bumped(counters: [u32; 11], place: usize) -> [u32; 11]
+fn bumped(mut counters: [u32; 11], place: usize) -> [u32; 11]
     requires { place < 11 }
     ensures { result ≡ bumped_at place counters }
 {
-    let mut c = counters;
-    c[place] = c[place].wrapping_add(1);
-    c
+    counters[place] = counters[place].wrapping_add(1);
+    counters
 }

@@ -137,12 +137,7 @@ impl Asked {
             return Err(Offence::NoSuchField);
         }
         offence_in(self.kind, named)?;
-        let sender = Sender {
-            initiator: h.initiator,
-            path: self.command.path,
-            link,
-        };
-        if !is_allowed(self.kind, owner, sender) {
+        if !is_allowed(self.kind, owner, Sender::of(self.command, link)) {
             return Err(Offence::NotOwner);
         }
         Ok(())

@@ -26,6 +26,25 @@ pub struct Fields {
     pub divider: u32,
 }
 
+impl Fields {
+    // A write to the divider: its low half is taken where it lies in the range.
+    pub(crate) fn write_divider(self, word: u32) -> Fields
+        ensures { result ≡ divider_written self word }
+    {
+        let low = word % 0x1_0000;
+        if low < self.range % 0x1_0000 {
+            return self;
+        }
+        if self.range / 0x1_0000 < low {
+            return self;
+        }
+        Fields {
+            divider: self.divider / 0x1_0000 * 0x1_0000 + low,
+            ..self
+        }
+    }
+}
+
 // What may be done with a field of our table besides reading it.
 #[derive(Clone, Copy)]
 pub(crate) enum Right {
@@ -175,8 +194,7 @@ impl Named {
         ensures { result ≡ some is_missing (named self.address self.count) }
     {
         for i in 0..self.count {
-            let missing = row_of(self.address + i as u32) == None;
-            if missing {
+            if row_of(self.address + i as u32).is_none() {
                 return true;
             }
         }
@@ -199,7 +217,7 @@ impl Named {
         requires { self.count ≤ 16 }
         ensures { take (4 * self.count) result ≡ field_bytes values (named self.address self.count) }
     {
-        let mut out = [0u8; 64];
+        let mut out = [0; 64];
         for i in 0..self.count {
             let row = row_of(self.address + i as u32).unwrap_or(MISSING);
             let word: [u8; 4] = values[row].to_octets();
@@ -207,20 +225,4 @@ impl Named {
         }
         out
     }
-}
-
-// A write to the divider: its low half is taken where it lies in the range.
-pub(crate) fn write_divider(fields: Fields, word: u32) -> Fields
-    ensures { result ≡ divider_written fields word }
-{
-    let low = word % 0x1_0000;
-    if low < fields.range % 0x1_0000 {
-        return fields;
-    }
-    if fields.range / 0x1_0000 < low {
-        return fields;
-    }
-    let mut f = fields;
-    f.divider = fields.divider / 0x1_0000 * 0x1_0000 + low;
-    f
 }

@@ -36,17 +36,24 @@ pub(crate) struct Arrived<'a> {
     pub link: u8,
 }
 
+impl<'a> Arrived<'a> {
+    // A packet, without its end, that came on that link.
+    pub(crate) fn of(packet: &'a [u8], end: End, link: u8) -> Arrived<'a>
+        ensures { record { packet = result.packet.now; end = result.end; link = result.link } ≡ as_read (record { packet = packet.now; end = end; link = link }) }
+    {
+        Arrived {
+            packet: packets::bare(packet),
+            end,
+            link,
+        }
+    }
+}
+
 // Judges a packet, without its end, that came on a link, with memory and a reply buffer of those sizes.
 pub fn judge(unit: Unit, packet: &[u8], end: End, link: u8, sizes: Sizes) -> Ruling
     ensures { result ≡ judged unit (as_read (record { packet = packet.now; end = end; link = link })) sizes }
 {
-    let bytes = packets::bare(packet);
-    let arrived = Arrived {
-        packet: bytes,
-        end,
-        link,
-    };
-    judge_read(unit, arrived, sizes)
+    judge_read(unit, Arrived::of(packet, end, link), sizes)
 }
 
 // Judges a packet as it is read.

@@ -2,7 +2,7 @@
 ghost use Rattle.std.specs.Prelude.{◌≡◌};
 ghost use Rattle.unit.specs.Owner.{is_owner, unowned, claimed, swapped};
 
-use packets::Path;
+use packets::{Command, Path};
 
 // Device ID, 0 where nobody owns the unit; and initiator address, reply path and link of the claim.
 // Kept: flat, with no `Sender` in it; callers write the fields of this public type, and `swap_claims` and `swap_releases` say them.
@@ -22,11 +22,23 @@ pub(crate) struct Sender {
     pub link: u8,
 }
 
-impl Owner {
-    // Kept: a derived Default says of the path only that each of its twelve bytes is 0, and `default ≡ unowned` didn't close.
-    fn none() -> Owner
-        ensures { result ≡ unowned }
+impl Sender {
+    // Of a command that came on that link.
+    pub(crate) fn of(command: Command, link: u8) -> Sender
+        ensures { result ≡ (record { initiator = command.header.initiator; path = command.path; link = link }) }
     {
+        Sender {
+            initiator: command.header.initiator,
+            path: command.path,
+            link,
+        }
+    }
+}
+
+impl Default for Owner {
+    ghost is_default = { λ owner. owner ≡ unowned };
+
+    fn default() -> Owner {
         Owner {
             device: 0,
             initiator: 0,
@@ -34,7 +46,9 @@ impl Owner {
             link: 0,
         }
     }
+}
 
+impl Owner {
     // Whether the sender of a command is the owner.
     pub(crate) fn is(self, sender: Sender) -> bool
         ensures { result ≡ is_owner self sender.initiator sender.path sender.link }
@@ -56,7 +70,7 @@ impl Owner {
             return self.claim(new, sender);
         }
         if new == 0 {
-            return Owner::none();
+            return Owner::default();
         }
         Owner {
             device: new,

@@ -2,4 +2,4 @@
 use Rattle.unit.proofs.judging.judge.Goals as goal
 
 pub returns : goal.returns
-returns c = rw (← c.bare-bytes.ensures) c.judge_read.ensures
+returns c = rw (← c.of.ensures) c.judge_read.ensures

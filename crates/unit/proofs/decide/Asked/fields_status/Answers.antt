@@ -29,12 +29,12 @@ returns-in_err-offence_in c =
 
 pub returns-then-not-is_allowed : goal.returns-then-not-is_allowed
 returns-then-not-is_allowed c =
-    rw (sym c.is_allowed.ensures ∙ c.if-not-is_allowed.true) at
+    rw (rw c.of.ensures at (sym c.is_allowed.ensures ∙ c.if-not-is_allowed.true)) at
     (none_is_missing c.args.owner c.args.self.command.header c.args.self.command.path c.args.link c.args.self.kind_is c.field_count.ensures (sym c.names_fields.ensures ∙ c.if-not-names_fields.false)
     (sym c.any_missing.ensures ∙ c.if-any_missing.false) c.in_ok-offence_in.ensures)
 
 pub returns : goal.returns
 returns c =
-    rw (sym c.is_allowed.ensures ∙ c.if-not-is_allowed.false) at
+    rw (rw c.of.ensures at (sym c.is_allowed.ensures ∙ c.if-not-is_allowed.false)) at
     (none_is_missing c.args.owner c.args.self.command.header c.args.self.command.path c.args.link c.args.self.kind_is c.field_count.ensures (sym c.names_fields.ensures ∙ c.if-not-names_fields.false)
     (sym c.any_missing.ensures ∙ c.if-any_missing.false) c.in_ok-offence_in.ensures)

@@ -14,7 +14,7 @@ returns-then-self-eq0 c = rw (eq-eqb _ _ c.if-self-expected.false, eq-eqb _ _ c.
 pub returns-then-new-eq0 : goal.returns-then-new-eq0
 unfolding swapped
 returns-then-new-eq0 c =
-    rw (eq-eqb _ _ c.if-self-expected.false, ne_eqb _ _ c.if-self-eq0.false, eq-eqb _ _ c.if-new-eq0.true) c.none.ensures
+    rw (eq-eqb _ _ c.if-self-expected.false, ne_eqb _ _ c.if-self-eq0.false, eq-eqb _ _ c.if-new-eq0.true) c.default.ensures
 
 pub returns : goal.returns
 unfolding swapped

@@ -1,8 +1,8 @@
--- `unit::act::write_field` meets its contract: the rows of the two fields that are written, one after the other.
+-- `unit::unit::Unit::write_field` meets its contract: the rows of the two fields that are written, one after the other.
 use Rattle.std.proofs.Common.{sym, ◌∙◌, ne_eqb}
 use Rattle.unit.specs.Act.{field_written}
 use Rattle.unit.proofs.FieldLaws.{in_table, off_table}
-use Rattle.unit.proofs.act.write_field.Goals as goal
+use Rattle.unit.proofs.unit.Unit.write_field.Goals as goal
 
 pub returns-in-Some-eq11 : goal.returns-in-Some-eq11
 unfolding field_written

@@ -1,6 +1,6 @@
--- `unit::clock::set_time` meets its contract: at once or at the wrap.
+-- `unit::clock::Clock::set_time` meets its contract: at once or at the wrap.
 use Rattle.unit.specs.Clock.{after_time}
-use Rattle.unit.proofs.clock.set_time.Goals as goal
+use Rattle.unit.proofs.clock.Clock.set_time.Goals as goal
 
 pub returns-in-AtWrap : goal.returns-in-AtWrap
 unfolding after_time

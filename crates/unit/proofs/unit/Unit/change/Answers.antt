@@ -1,8 +1,8 @@
--- `unit::act::change` meets its contract: action by action: a swap changes the owner, a write a field, the others nothing.
+-- `unit::unit::Unit::change` meets its contract: action by action: a swap changes the owner, a write a field, the others nothing.
 use Rattle.std.proofs.Common.{arith}
 use Rattle.std.proofs.lemmas.Grind.{common_steps}
 use Rattle.unit.specs.Act.{changed}
-use Rattle.unit.proofs.act.change.Goals as goal
+use Rattle.unit.proofs.unit.Unit.change.Goals as goal
 
 pub returns-in-Nothing : goal.returns-in-Nothing
 unfolding changed
