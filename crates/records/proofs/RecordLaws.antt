@@ -1,13 +1,15 @@
 -- Laws of records: how long a right one is, which numbers stand for its kind and its end, that a whole one is all there, and that what comes behind a record changes nothing of it.
-use Rattle.std.proofs.Common.{◌≡◌, ℕ, ◌+◌, ◌<◌, ◌≤◌, Bool, true, false, cond, not, ◌&&◌, ◌||◌, eqb, ltb, leb, List, Result, Ok, Err, ◌++◌, length, get_or, take, drop, sym, refl, ap, ◌∙◌, arith, length-append, length-drop, take-append-drop, length-take-le, ltb-false, ltb-true, le-ltb, ne_eqb, eqb-true, leb-true}
+use Rattle.std.proofs.Common.{◌≡◌, ℕ, ◌+◌, ◌<◌, ◌≤◌, Bool, true, false, cond, not, ◌&&◌, ◌||◌, eqb, ltb, leb, List, Result, Ok, Err, ◌++◌, length, get_or, take, drop, sym, refl, ap, ◌∙◌, arith, length-append, length-drop, take-append-drop, length-take-le, ltb-false, ltb-true, le-ltb, lt-ltb, ne_eqb, eqb-true, leb-true}
 use mathlib.Core.Bool.{or-false}
 use borrow.Author.Tests.{eqb-false}
 use lib.ListN.{get_or-append}
 use lib.Seq.{take-append-le, drop-append-le}
+use Rattle.std.proofs.lemmas.List.{get_or-take, get_or-drop}
 use Rattle.octets.specs.Places.{part}
 use Rattle.octets.specs.Numbers.{number}
 use Rattle.octets.proofs.PlaceLaws.{first_true, second_true}
 use Rattle.records.specs.Record.{kind_number, end_number, is_right, body_size, is_head, end_of, item_of, read_record, size_of}
+use Rattle.records.specs.Between.{read_behind}
 use Rattle.packets.specs.declared.reading.End.{End}
 use Rattle.packets.specs.declared.reading.End.TheVariants.{Eop, Eep}
 use Rattle.records.specs.declared.record.Item.{Item}
@@ -214,3 +216,25 @@ module _ (s : List ℕ) (enough : 7 ≤ length s) where
 
   pub first_head : is_head (take 7 s) ≡ is_head s
   first_head = sym (more_head (take 7 s) (drop 7 s) (omega (arith, length-take-le 7 s enough))) ∙ ap is_head (take-append-drop 7 s)
+
+  short : ltb (length (drop 7 s)) (body_size s) ≡ ltb (length s) (7 + body_size s)
+  short = go (ltb (length s) (7 + body_size s)) refl
+    where
+      go : (t : Bool) → ltb (length s) (7 + body_size s) ≡ t → ltb (length (drop 7 s)) (body_size s) ≡ t
+      go true e = lt-ltb _ _ (omega (arith, length-drop 7 s, ltb-true (length s) (7 + body_size s) e))
+      go false e = le-ltb _ _ (omega (arith, length-drop 7 s, ltb-false (length s) (7 + body_size s) e))
+
+  -- so a record is read from the head and from what is behind it
+  pub parted : read_behind (take 7 s) (drop 7 s) ≡ read_record s
+  unfolding read_record
+  parted =
+      rw (
+        le-ltb (length s) 7 enough,
+        first_head,
+        first_size,
+        get_or-take 7 s 2 0 (omega arith),
+        get_or-take 7 s 3 0 (omega arith),
+        get_or-take 7 s 4 0 (omega arith),
+        get_or-drop 7 s 0 0,
+        short,
+      )

@@ -1,9 +1,14 @@
 -- What private functions ask of each other and promise each other; no public promise cites these.
-use Rattle.std.specs.Prelude.{◌≡◌, ℕ, ◌+◌, ◌≤◌, List, length}
+use Rattle.std.specs.Prelude.{◌≡◌, ℕ, ◌+◌, ◌≤◌, cond, not, List, length, take, Result, Ok, Err, ◌==◌, nat_lt, slice_index}
 use Rattle.octets.specs.Places.{placed}
-use Rattle.records.specs.Record.{size_of}
+use Rattle.octets.specs.Numbers.{number}
+use Rattle.records.specs.Record.{is_head, body_size, end_of, size_of}
 use Rattle.records.specs.Log.{Held as TheHeld}
 use Rattle.records.specs.Run.{left_by, used_by, text_of, longest_line}
+use Rattle.records.specs.declared.record.Item.{Item}
+use Rattle.records.specs.declared.record.Item.TheVariants.{Packet, TimeCode, Ticks}
+use Rattle.records.specs.declared.record.NoRecord.{NoRecord}
+use Rattle.records.specs.declared.record.NoRecord.TheVariants.{Wrong, Cut}
 use Rattle.records.specs.declared.text.Page.{Page}
 use Rattle.records.specs.declared.log.Held.{Held}
 use Rattle.records.specs.declared.log.Next.{Next}
@@ -44,3 +49,12 @@ abbrev pub Fits : Next → List ℕ → Type 0
 Fits Heading s = Unit
 Fits (Line item) s = size_of item ≤ length s
 Fits Last s = Unit
+
+-- The record of a head, and of the bytes behind it.
+abbrev pub read_behind : List ℕ → List ℕ → Result Item NoRecord
+read_behind head behind =
+    cond (not (is_head head)) (Err Wrong)
+    (cond (nat_lt (length behind) (body_size head)) (Err Cut)
+    (Ok
+    (cond (slice_index head 2 == 1) (Packet (end_of (slice_index head 4)) (slice_index head 3) (body_size head))
+    (cond (slice_index head 2 == 2) (TimeCode (slice_index behind 0)) (Ticks (number (take 4 behind)))))))

@@ -1,41 +1,15 @@
--- `records::record::read_record` meets its contract: the definition asks the same tests in the same order.
-use Rattle.std.proofs.Common.{◌+◌, length, sym, ◌∙◌, arith, le-ltb, lt-ltb}
-use Rattle.records.specs.Record.{body_size, read_record}
-use Rattle.records.proofs.RecordLaws.{first_size, first_head}
+-- `records::record::read_record` meets its contract: what it hands on is the first seven bytes, and what is behind them.
+use Rattle.std.proofs.Common.{arith, lt-ltb, ◌∙◌}
+use Rattle.records.specs.Record.{read_record}
+use Rattle.records.proofs.RecordLaws.{parted}
 use Rattle.records.proofs.record.read_record.Goals as goal
 
-pub returns-in_default : goal.returns-in_default
+pub returns-in-None : goal.returns-in-None
 unfolding read_record
-returns-in_default c =
-    let few = rw c.in_default.is at c.first_chunk.ensures.cases in
-    rw (lt-ltb _ _ few)
+returns-in-None c = rw (lt-ltb _ _ (rw c.in-None.is at c.split_first_chunk.ensures.cases))
 
-pub returns-then-not-is_head : goal.returns-then-not-is_head
-unfolding read_record
-returns-then-not-is_head c =
-    let first = rw c.in-Some.is at c.first_chunk.ensures.cases in
-    let head = sym (first_head c.args.log.now first.enough) ∙ rw first.same at (sym c.is_head.ensures ∙ c.if-not-is_head.true) in
-    rw (le-ltb _ _ first.enough, head)
-
-pub returns-then-log-size : goal.returns-then-log-size
-unfolding read_record
-returns-then-log-size c =
+pub returns-in-Some : goal.returns-in-Some
+returns-in-Some c =
     let s = c.args.log.now in
-    let first = rw c.in-Some.is at c.first_chunk.ensures.cases in
-    let head = sym (first_head s first.enough) ∙ rw first.same at (sym c.is_head.ensures ∙ c.if-not-is_head.false) in
-    let size = (rw first.same at c.body_size-size.ensures) ∙ first_size s first.enough in
-    rw (le-ltb _ _ first.enough, head, lt-ltb (length s) (7 + body_size s) (omega arith))
-
-pub returns : goal.returns
-unfolding read_record
-returns c =
-    let s = c.args.log.now in
-    let first = rw c.in-Some.is at c.first_chunk.ensures.cases in
-    let head = sym (first_head s first.enough) ∙ rw first.same at (sym c.is_head.ensures ∙ c.if-not-is_head.false) in
-    let size = (rw first.same at c.body_size-size.ensures) ∙ first_size s first.enough in
-    rw (
-      le-ltb _ _ first.enough,
-      head,
-      le-ltb (length s) (7 + body_size s) (omega arith),
-      c.item_of.ensures,
-    )
+    let first = rw c.in-Some.is at c.split_first_chunk.ensures.cases in
+    c.read_behind.ensures ∙ rw (first.0, first.1) (parted s (omega arith))
