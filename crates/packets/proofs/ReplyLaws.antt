@@ -9,13 +9,13 @@ use native.Mathlib.Decide.{dec_le}
 use native.Mathlib.Nat.{lt_of_not-le, zero-add}
 use borrow.Author.Tests.{ltb-true, leb-true, lt-leb, not-true}
 use lib.Dec.{eqb, leb, ltb}
-use lib.ListN.{length, take, replicate, length-append, length-replicate, length-take, length-drop}
+use lib.ListN.{length, replicate, length-append, length-replicate, length-take, length-drop}
 use lib.Seq.{take-length}
 use Rattle.octets.specs.Places.{part, placed, copied, filled}
 use Rattle.octets.specs.Numbers.{bytes_of}
 use Rattle.octets.specs.Crc.{crc, with_crc}
 use Rattle.octets.proofs.PlaceLaws.{length_placed, length_part, part_placed, part_beside, placed_on, placed_same, placed_hides}
-use Rattle.octets.proofs.PlaceLaws.{copied_done, length_copied, filled_done, length_filled, placed_if_length, first_true, second_true}
+use Rattle.octets.proofs.PlaceLaws.{copied_done, filled_done, placed_if_length, first_true, second_true}
 use Rattle.packets.specs.Instruction.{is_write}
 use Rattle.packets.specs.Path.{path_bytes}
 use Rattle.packets.specs.Reply.{reply_start, reply_head, reply_with, data_place, data_in, data_size, carries_data, carried, carried_count, reply_of, reply_length, reply_fits, replied}
@@ -23,7 +23,6 @@ use Rattle.packets.specs.declared.path.Path.{Path}
 use Rattle.packets.specs.declared.header.Header.{Header}
 use Rattle.packets.specs.declared.reply.Data.{Data}
 use Rattle.packets.specs.declared.reply.Data.TheVariants.{Bytes, Repeated, InPlace}
-use Rattle.packets.proofs.PathLaws.{path_part}
 
 -- ---- pieces put into a buffer
 
@@ -38,19 +37,8 @@ placed_next x y out at e h =
 
 -- a path at the start, and a header copied behind it
 pub head_placed : (x head out : List ℕ) {first then : List ℕ} (n m : ℕ) → n ≡ length x → length head ≡ m → n + m ≤ length out
-    → first ≡ placed 0 x out → then ≡ copied head 0 m first n → then ≡ placed 0 (x ++ head) out
-head_placed x head out {first} {then} n m e f h p q =
-    let l : length first ≡ length out = placed_length x out p (omega arith) in
-    let whole : part 0 m head ≡ head = ap (λ (k : ℕ). take k head) (sym f) ∙ take-length head in
-    q
-    ∙ copied_done head 0 m first n (omega arith) (omega arith)
-    ∙ rw (whole, p) (placed_next x head out n e (omega arith))
-
--- the path, as a part of the twelve bytes that keep it
-pub path_placed : (k : Path) (n : ℕ) (out : List ℕ) {then : List ℕ} → length k.bytes ≡ 12 → n ≡ length (path_bytes k) → n ≤ 12 → n ≤ length out
-    → then ≡ copied k.bytes (12 - n) n out 0 → then ≡ placed 0 (path_bytes k) out
-path_placed k n out twelve e small h q =
-    q ∙ copied_done k.bytes (12 - n) n out 0 (omega arith) (omega arith) ∙ ap (λ (x : List ℕ). placed 0 x out) (path_part k n twelve e)
+    → first ≡ placed 0 x out → then ≡ placed n head first → then ≡ placed 0 (x ++ head) out
+head_placed x head out n m e f h p q = q ∙ rw p (placed_next x head out n e (omega (arith, f)))
 
 -- behind x at the start stand n bytes, and their CRC is put behind them
 pub data_ended : (x out : List ℕ) {first then : List ℕ} (at n : ℕ) → at ≡ length x → at + n < length out → first ≡ placed 0 x out

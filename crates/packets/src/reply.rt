@@ -9,6 +9,7 @@ ghost use Rattle.packets.specs.Reply.{reply_start, reply_head, reply_with, data_
 ghost use Rattle.packets.specs.Reply.{reply_length, reply_fits, replied};
 
 use crate::path::Path;
+use crate::places::put;
 use crate::reading::Command;
 use octets::Octets;
 
@@ -135,11 +136,11 @@ impl Reply {
         write_path(path, out);
         if self.is_to_write() {
             let head = self.short_head();
-            octets::copy_part(&head, 0, 8, out, size);
+            put(&head, out, size);
             return size + 8;
         }
         let head = self.long_head(count);
-        octets::copy_part(&head, 0, 12, out, size);
+        put(&head, out, size);
         size + 12
     }
 
@@ -201,7 +202,7 @@ fn write_path(path: Path, out: &mut [u8])
     ensures { out.new ≡ placed 0 (path_bytes path) out.old }
 {
     let size = path.size();
-    octets::copy_part(&path.bytes, 12 - size, size, out, 0);
+    put(&path.bytes[12 - size..], out, 0);
 }
 
 // Writes their CRC behind the `count` bytes of data at `at`.
@@ -211,5 +212,5 @@ fn end_data(at: usize, count: usize, out: &mut [u8])
 {
     let end = at + count;
     let k = octets::crc_of(&out[at..end]);
-    octets::fill(out, end, 1, k);
+    put(&[k], out, end);
 }
