@@ -4,6 +4,7 @@ ghost use Rattle.std.specs.Prelude.{◌≡◌, ◌-◌, ◌≤◌, length};
 use std::io::{self, Read};
 
 // What of the log is in the buffer and not used: the bytes from `from` up to `have`. `last` says that no more come.
+// Kept: beside console's `Lines`, which reads until it is full. This reads once, by a handle, and hands an error on: one type would need both ways.
 #[derive(Drop)]
 pub(crate) struct Log {
     space: [u8; 65536],
@@ -40,7 +41,7 @@ impl Log {
     // is room to read into, and 0 bytes read are the end of the log.
     pub(crate) fn read_on(&mut self, rt: &HostRuntime) -> io::Result<()> {
         let kept = self.have - self.from;
-        octets::move_to_start(&mut self.space, self.from, kept);
+        self.space.copy_within(self.from..self.have, 0);
         self.from = 0;
         self.have = kept;
         let more = rt.stdin().read(&mut self.space[kept..])?;

@@ -8,6 +8,7 @@ ghost use Rattle.std.specs.Prelude.{◌≡◌};
 ghost use Rattle.records.specs.Log.{start_held};
 
 use log::Log;
+use records::Stage;
 use std::fmt;
 
 mod log;
@@ -57,7 +58,7 @@ fn all(rt: &HostRuntime, memory: &mut [u8], reply: &mut [u8]) -> Result<(), Brok
             if !io::write_all(STDOUT, &out[..ran.written]) {
                 return Err(Broken::Output);
             }
-            if bench.stage.is_over() {
+            if bench.stage == Stage::Over {
                 return Ok(());
             }
         }

@@ -64,7 +64,7 @@ impl Lines {
     // Moves what is read and not given out to the buffer's start, and reads until the buffer is full or the input ends.
     fn read_on(&mut self) {
         let kept = self.have - self.from;
-        octets::move_to_start(&mut self.space, self.from, kept);
+        self.space.copy_within(self.from..self.have, 0);
         let have = kept + io::read_full(0, &mut self.space[kept..]);
         self.from = 0;
         self.have = have;

@@ -70,6 +70,6 @@ fn bench_unit() -> Unit
         fields: Fields::default(),
         owner,
         clock: Clock::default(),
-        counters: [0u32; 11],
+        counters: [0; 11],
     }
 }

@@ -72,6 +72,7 @@ pub fn run(
     };
     let mut page = Page { out, at: 0 };
     let mut used = 0;
+    // Kept: `while`. Whether there is a turn more depends on what the last one left of page and log, which no iterator could be lent beside it.
     while has_room(page.room(), held.reply.len()) {
         let rest = &log[used..];
         let Some(next) = next_of(held.bench.stage, rest, last) else {

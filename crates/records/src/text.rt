@@ -2,8 +2,7 @@
 ghost use Rattle.std.specs.Prelude.{◌≡◌, ◌+◌, ◌-◌, ◌*◌, ◌<◌, ◌≤◌, [], ◌∷◌, ◌++◌, length};
 ghost use Rattle.octets.specs.Places.{placed};
 ghost use Rattle.records.specs.Between.{HasRoom, Put};
-ghost use Rattle.records.specs.Text.{decimal, hexes, spaced, ended, status_text, reply_text, record_line};
-ghost use Rattle.records.specs.Text.{glyph as Text·glyph};
+ghost use Rattle.records.specs.Text.{decimal, hexes, spaced, ended, status_text, reply_text, record_line, glyph as Text·glyph};
 
 use unit::Fate;
 
@@ -28,8 +27,9 @@ impl Page<'_> {
         requires { HasRoom text.now self.old }
         ensures { Put text.now self.old self.new }
     {
-        octets::copy_part(text, 0, text.len(), self.out, self.at);
-        self.at += text.len();
+        let end = self.at + text.len();
+        self.out[self.at..end].copy_from_slice(text);
+        self.at = end;
     }
 
     // A number in decimal, and one byte behind it.
@@ -41,7 +41,7 @@ impl Page<'_> {
         self.put(&[behind]);
     }
 
-    // Kept: digits by hand, since `write!` promises its text only where it answers Ok, and `run` has no refusal.
+    // Kept: by hand. `write!` promises text only where it answers Ok; the kit's `itoa` always does, but a law would tie its digits to `decimal`.
     fn put_decimal(&mut self, n: u64)
         requires { HasRoom (decimal n) self.old }
         ensures { Put (decimal n) self.old self.new }
@@ -106,6 +106,7 @@ impl Page<'_> {
 }
 
 // Two digits for each byte, from a place of a buffer on. Long replies took four times as long with a `put` for each byte.
+// Kept: by index, since nothing is known of what is written through an iterator.
 fn write_hex(bytes: &[u8], out: &mut [u8], at: usize)
     requires { at + 2 * length bytes.now ≤ length out.old }
     ensures { out.new ≡ placed at (hexes bytes.now) out.old }

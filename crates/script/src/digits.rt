@@ -29,6 +29,7 @@ pub fn bytes(s: &[u8], out: &mut [u8]) -> usize
 {
     let mut left = s;
     let mut n = 0;
+    // Kept: `while let`. A step takes one byte or two, as the first one says, and no iterator does.
     while let [a, b, more @ ..] = left {
         if *a == b' ' {
             left = &left[1..];
@@ -57,6 +58,7 @@ fn pair(a: u8, b: u8) -> u8
     digit(a) * 16 + digit(b)
 }
 
+// Kept: a number for any byte, as `digit_of` says; `char::to_digit` has none for what is no digit.
 fn digit(c: u8) -> u8
     ensures answers { result ≡ digit_of c }
     ensures small { result ≤ 15 }

@@ -1,7 +1,6 @@
 // Lines, and the fields of a line.
 ghost use Rattle.std.specs.Prelude.{◌≡◌, ◌≤◌, ◌==◌, length, position, reverse};
-ghost use Rattle.script.specs.Fields.{up_to, line_end, field_of, rest_of};
-ghost use Rattle.script.specs.Fields.{runnable as Fields·runnable};
+ghost use Rattle.script.specs.Fields.{up_to, line_end, field_of, rest_of, runnable as Fields·runnable};
 
 // The size of the first line, without its end.
 pub fn line_size(s: &[u8]) -> usize
