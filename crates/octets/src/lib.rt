@@ -9,6 +9,6 @@ mod numbers;
 mod table;
 mod words;
 
-pub use copies::{copy_part, fill, move_to_start};
+pub use copies::{NoRoom, copy_part, fill, move_to_start};
 pub use crc::{crc_from, crc_of};
 pub use numbers::{Octets, read_number, write_number};

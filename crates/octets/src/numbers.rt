@@ -1,8 +1,8 @@
 // Numbers in bytes, most significant byte first (document 01, 'Reading a packet' and 'Time').
-ghost use Rattle.std.specs.Prelude.{◌≡◌, ◌^◌, ◌≤◌, ltb, ℕ};
+ghost use Rattle.std.specs.Prelude.{◌≡◌, ◌^◌, ◌≤◌, is_ok, ltb, ℕ};
 ghost use Rattle.octets.specs.Numbers.{number, bytes_of, read_number as Numbers·read_number, number_fits, written};
 
-use crate::copies::copy_part;
+use crate::copies::{NoRoom, copy_part};
 
 // Reads the number of `width` bytes at `at`. None if not all of them are there, or if they are over eight.
 pub fn read_number(s: &[u8], at: usize, width: usize) -> Option<u64>
@@ -12,20 +12,18 @@ pub fn read_number(s: &[u8], at: usize, width: usize) -> Option<u64>
         return None;
     }
     let mut bytes = [0; 8];
-    if !copy_part(s, at, width, &mut bytes, 8 - width) {
-        return None;
-    }
+    copy_part(s, at, width, &mut bytes, 8 - width).ok()?;
     Some(u64::from_octets(bytes))
 }
 
-// Writes n as `width` bytes at `at`, all or nothing. True if it did: they are at most eight, n is below 256^width, and the
-// places are there.
-pub fn write_number(dst: &mut [u8], at: usize, width: usize, n: u64) -> bool
-    ensures answers { result ≡ number_fits dst.old at width n }
+// Writes n as `width` bytes at `at`, all or nothing: they have to be at most eight, n below 256^width, and the places
+// there.
+pub fn write_number(dst: &mut [u8], at: usize, width: usize, n: u64) -> Result<(), NoRoom>
+    ensures answers { is_ok result ≡ number_fits dst.old at width n }
     ensures leaves { dst.new ≡ written dst.old at width n }
 {
     if 8 < width || !fits_width(n, width) {
-        return false;
+        return Err(NoRoom);
     }
     let bytes: [u8; 8] = n.to_octets();
     copy_part(&bytes, 8 - width, width, dst, at)

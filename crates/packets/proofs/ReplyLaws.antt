@@ -9,13 +9,13 @@ use native.Mathlib.Decide.{dec_le}
 use native.Mathlib.Nat.{lt_of_not-le, zero-add}
 use borrow.Author.Tests.{ltb-true, leb-true, lt-leb, not-true}
 use lib.Dec.{eqb, leb, ltb}
-use lib.ListN.{length, take, replicate, length-append, length-replicate, length-take, length-drop}
+use lib.ListN.{length, replicate, length-append, length-replicate, length-take, length-drop}
 use lib.Seq.{take-length}
 use Rattle.octets.specs.Places.{part, placed, copied, filled}
 use Rattle.octets.specs.Numbers.{bytes_of}
 use Rattle.octets.specs.Crc.{crc, with_crc}
 use Rattle.octets.proofs.PlaceLaws.{length_placed, length_part, part_placed, part_beside, placed_on, placed_same, placed_hides}
-use Rattle.octets.proofs.PlaceLaws.{copied_done, length_copied, filled_done, length_filled, placed_if_length, first_true, second_true}
+use Rattle.octets.proofs.PlaceLaws.{copied_done, filled_done, placed_if_length, first_true, second_true}
 use Rattle.packets.specs.Instruction.{is_write}
 use Rattle.packets.specs.Path.{path_bytes}
 use Rattle.packets.specs.Reply.{reply_start, reply_head, reply_with, data_place, data_in, data_size, carries_data, carried, carried_count, reply_of, reply_length, reply_fits, replied}
@@ -23,7 +23,6 @@ use Rattle.packets.specs.declared.path.Path.{Path}
 use Rattle.packets.specs.declared.header.Header.{Header}
 use Rattle.packets.specs.declared.reply.Data.{Data}
 use Rattle.packets.specs.declared.reply.Data.TheVariants.{Bytes, Repeated, InPlace}
-use Rattle.packets.proofs.PathLaws.{path_part}
 
 -- ---- pieces put into a buffer
 
@@ -38,19 +37,8 @@ placed_next x y out at e h =
 
 -- a path at the start, and a header copied behind it
 pub head_placed : (x head out : List ℕ) {first then : List ℕ} (n m : ℕ) → n ≡ length x → length head ≡ m → n + m ≤ length out
-    → first ≡ placed 0 x out → then ≡ copied head 0 m first n → then ≡ placed 0 (x ++ head) out
-head_placed x head out {first} {then} n m e f h p q =
-    let l : length first ≡ length out = placed_length x out p (omega arith) in
-    let whole : part 0 m head ≡ head = ap (λ (k : ℕ). take k head) (sym f) ∙ take-length head in
-    q
-    ∙ copied_done head 0 m first n (omega arith) (omega arith)
-    ∙ rw (whole, p) (placed_next x head out n e (omega arith))
-
--- the path, as a part of the twelve bytes that keep it
-pub path_placed : (k : Path) (n : ℕ) (out : List ℕ) {then : List ℕ} → length k.bytes ≡ 12 → n ≡ length (path_bytes k) → n ≤ 12 → n ≤ length out
-    → then ≡ copied k.bytes (12 - n) n out 0 → then ≡ placed 0 (path_bytes k) out
-path_placed k n out twelve e small h q =
-    q ∙ copied_done k.bytes (12 - n) n out 0 (omega arith) (omega arith) ∙ ap (λ (x : List ℕ). placed 0 x out) (path_part k n twelve e)
+    → first ≡ placed 0 x out → then ≡ placed n head first → then ≡ placed 0 (x ++ head) out
+head_placed x head out n m e f h p q = q ∙ rw p (placed_next x head out n e (omega (arith, f)))
 
 -- behind x at the start stand n bytes, and their CRC is put behind them
 pub data_ended : (x out : List ℕ) {first then : List ℕ} (at n : ℕ) → at ≡ length x → at + n < length out → first ≡ placed 0 x out
@@ -92,22 +80,6 @@ same_length path h status n k f = go (carries_data h status) refl
         → length (path_bytes path) + cond (is_write h.instruction) 8 (13 + cond t n 0) ≡ length (path_bytes path) + cond (is_write h.instruction) 8 (13 + cond t k 0)
     go true e = rw (f e)
     go false e = refl
-
-carried_most : (t : Bool) (n : ℕ) → cond t n 0 ≤ n
-carried_most true n = omega arith
-carried_most false n = omega arith
-
-carried_part : (t : Bool) (d : List ℕ) → part 0 (cond t (length d) 0) d ≡ cond t d []
-carried_part true d = take-length d
-carried_part false d = refl
-
-carried_there : (t : Bool) (at n : ℕ) (out : List ℕ) → part at (cond t n 0) out ≡ cond t (part at n out) []
-carried_there true at n out = refl
-carried_there false at n out = refl
-
-carried_repeated : (t : Bool) (n b : ℕ) → replicate (cond t n 0) b ≡ cond t (replicate n b) []
-carried_repeated true n b = refl
-carried_repeated false n b = refl
 
 length_cond : (t : Bool) (d : List ℕ) → length (cond t d []) ≡ cond t (length d) 0
 length_cond true d = refl
@@ -171,47 +143,17 @@ data_fits k h status (Bytes bytes) out = refl
 data_fits k h status (Repeated byte count) out = rw length-replicate
 data_fits k h status (InPlace count) out = around_fits k h status count out
 
--- ---- what is carried, of n bytes of data m, in its place
-
-module _ (h : Header) (status : ℕ) (out : List ℕ) (at m : ℕ) where
-  pub put_copied : (d : List ℕ) {first : List ℕ} → m ≡ carried_count h status (length d) → first ≡ copied d 0 m out at → at + m ≤ length out
-      → first ≡ placed at (carried h status d) out
-  put_copied d {first} counts p room =
-      let most = carried_most (carries_data h status) (length d) in
-      let whole : part 0 m d ≡ carried h status d = rw counts (carried_part (carries_data h status) d) in
-      p ∙ copied_done d 0 m out at (omega arith) room ∙ ap (λ (x : List ℕ). placed at x out) whole
-
-  module _ (n : ℕ) (counts : m ≡ carried_count h status n) (room : at + m ≤ length out) where
-    pub put_filled : (b : ℕ) {first : List ℕ} → first ≡ filled out at m b → first ≡ placed at (carried h status (replicate n b)) out
-    put_filled b {first} p =
-        let whole : replicate m b ≡ carried h status (replicate n b) = rw counts (carried_repeated (carries_data h status) n b) in
-        p ∙ filled_done out at m b room ∙ ap (λ (x : List ℕ). placed at x out) whole
-
-    there : part at m out ≡ carried h status (part at n out)
-    there = rw counts (carried_there (carries_data h status) at n out)
-
-    pub put_there : out ≡ placed at (carried h status (part at n out)) out
-    put_there = sym (placed_same at m out room) ∙ ap (λ (x : List ℕ). placed at x out) there
-
-    length_there : length (carried h status (part at n out)) ≡ m
-    length_there = sym (ap length there) ∙ length_part at m out room
+-- data that are there have their size
+size_in : (k : Path) (b : Data) (out : List ℕ) → data_place k + data_size b ≤ length out → length (data_in k b out) ≡ data_size b
+size_in k (Bytes bytes) out room = refl
+size_in k (Repeated byte count) out room = length-replicate count byte
+size_in k (InPlace count) out room = length_part (data_place k) count out room
 
 -- ---- the writer: t is its test
 
 module _ (k : Path) (h : Header) (status : ℕ) (b : Data) (m : ℕ) (counts : m ≡ carried_count h status (data_size b)) (out : List ℕ) where
   carried_length : reply_length k h status m ≡ reply_length k h status (data_size b)
   carried_length = same_length k h status m (data_size b) (λ e. rw (counts, e))
-
-  carried_size : data_place k + m ≤ length out → length (carried h status (data_in k b out)) ≡ m
-  carried_size room = go b counts
-    where
-      all : (d : List ℕ) → m ≡ carried_count h status (length d) → length (carried h status d) ≡ m
-      all d c = length_cond (carries_data h status) d ∙ sym c
-
-      go : (b : Data) → m ≡ carried_count h status (data_size b) → length (carried h status (data_in k b out)) ≡ m
-      go (Bytes bytes) c = all bytes.now c
-      go (Repeated byte count) c = all (replicate count byte) (rw length-replicate c)
-      go (InPlace count) c = length_there h status out (data_place k) m count c room
 
   module _ {t : Bool} (test : t ≡ (ltb m (256 ^ 3) && leb (reply_length k h status m) (length out))) where
     pub reply_answer : t ≡ reply_fits k h status (data_size b) (length out)
@@ -231,32 +173,32 @@ module _ (k : Path) (h : Header) (status : ℕ) (b : Data) (m : ℕ) (counts : m
     unfolding replied
     reply_refused e = rw (told false e)
 
-    -- the data that are carried were put into their place, if there is one, and then all else around them
-    pub reply_done : {first then : List ℕ} → t ≡ true → (m ≡ 0 → first ≡ out)
-        → (data_place k + m ≤ length out → first ≡ placed (data_place k) (carried h status (data_in k b out)) out)
+    -- where data are carried, their place is there
+    pub data_room : t ≡ true → carries_data h status ≡ true → data_place k + data_size b ≤ length out
+    data_room e s =
+        let room = rw (not-true (is_write h.instruction) (first_true (not (is_write h.instruction)) (eqb status 0) s)) at (reply_room e) in
+        omega (arith, room, rw s at counts)
+
+    -- they were put into it, and then all else around them
+    pub reply_around : {first then : List ℕ} → t ≡ true → carries_data h status ≡ true → first ≡ placed (data_place k) (data_in k b out) out
         → then ≡ placed 0 (reply_with k h status (part (data_place k) m first)) first → then ≡ replied k h status (data_in k b out) out
     unfolding replied
-    reply_done {first} {then} e none some q = rw (told true e) (q ∙ go (is_write h.instruction) refl)
-      where
-        at : ℕ
-        at = data_place k
+    reply_around {first} {then} e s p q =
+        let at = data_place k in
+        let d = data_in k b out in
+        let w = not-true (is_write h.instruction) (first_true (not (is_write h.instruction)) (eqb status 0) s) in
+        let size = size_in k b out (data_room e s) ∙ sym (rw s at counts) in
+        let room = rw w at (reply_room e) in
+        let there : part at m first ≡ d = ap (part at m) p ∙ rw (← size) (part_placed at d out (omega (arith, size))) in
+        let long : length (reply_with k h status d) ≡ length (path_bytes k) + (13 + length d) =
+        length_with k h status d ∙ ap (λ (b : Bool). length (path_bytes k) + cond b 8 (13 + length d)) w in
+        rw (told true e, s, q, there, p) (placed_hides 0 at (reply_with k h status d) d out (omega arith) (omega (arith, size)) (omega (arith, size)))
 
-        c : List ℕ
-        c = carried h status (data_in k b out)
-
-        go : (w : Bool) → is_write h.instruction ≡ w
-            → placed 0 (reply_with k h status (part at m first)) first ≡ placed 0 (reply_of k h status (data_in k b out)) out
-        go true w =
-            rw (none (counts ∙ rw w), reply_short k h status (part at m out) 0 w, reply_short k h status c 0 w)
-        go false w =
-            let room = rw w at (reply_room e) in
-            let size = carried_size (omega arith) in
-            let f = some (omega arith) in
-            let there : part at m first ≡ c =
-            ap (part at m) f ∙ rw (← size) (part_placed at c out (omega (arith, size))) in
-            let long : length (reply_with k h status c) ≡ length (path_bytes k) + (13 + length c) =
-            length_with k h status c ∙ ap (λ (b : Bool). length (path_bytes k) + cond b 8 (13 + length c)) w in
-            rw (there, f) (placed_hides 0 at (reply_with k h status c) c out (omega arith) (omega (arith, size)) (omega (arith, size)))
+    -- where none are, it was written as it is
+    pub reply_alone : {then : List ℕ} → t ≡ true → carries_data h status ≡ false
+        → then ≡ placed 0 (reply_with k h status (part (data_place k) m out)) out → then ≡ replied k h status (data_in k b out) out
+    unfolding replied
+    reply_alone {then} e s q = rw (told true e, s) (q ∙ rw (counts, s))
 
 -- ---- a reply that carries n bytes of data, and has room with them
 

@@ -2,6 +2,7 @@
 ghost use Rattle.std.specs.Prelude.{◌≡◌, length};
 ghost use Rattle.packets.specs.Ccsds.{ccsds_number_of, unsent_number_of, is_space_packet as Ccsds·is_space_packet, space_packet_in, read_ccsds as Ccsds·read_ccsds, sending, sent};
 
+use crate::places::put;
 use crate::reading::End;
 use octets::Octets;
 
@@ -57,7 +58,7 @@ pub fn space_packet(packet: &[u8]) -> &[u8]
     ensures { result.now ≡ space_packet_in packet.now }
 {
     if packet.len() < 4 {
-        return &packet[0..0];
+        return &[];
     }
     &packet[4..]
 }
@@ -79,9 +80,8 @@ pub fn write_ccsds(
     if out.len() < size {
         return Err(Unsent::OutputTooShort);
     }
-    let front = [address, 0x02, 0x00, application];
-    octets::copy_part(&front, 0, 4, out, 0);
-    octets::copy_part(space, 0, space.len(), out, 4);
+    put(&[address, 0x02, 0x00, application], out, 0);
+    put(space, out, 4);
     Ok(size)
 }
 

@@ -6,6 +6,7 @@ mod ccsds;
 mod header;
 mod instruction;
 mod path;
+mod places;
 mod reading;
 mod reply;
 mod time;

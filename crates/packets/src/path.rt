@@ -2,6 +2,8 @@
 ghost use Rattle.std.specs.Prelude.{◌≡◌, [], ◌≤◌, not, ◌==◌, length, position};
 ghost use Rattle.packets.specs.Path.{path_of, kept, path_bytes, same_path};
 
+use crate::places::put;
+
 // A path as it is kept: the last `count` of the bytes; what stands before them is zero.
 // Kept: no heap, and fields 5 to 7 read all twelve bytes (`path_words`); any count is taken, and one above twelve means twelve (`path_bytes`).
 #[derive(Clone, Copy, PartialEq, Eq)]
@@ -45,7 +47,7 @@ pub(crate) fn keep(address: &[u8]) -> Path
 {
     let n = address.len();
     let mut bytes = [0u8; 12];
-    octets::copy_part(address, 0, n, &mut bytes, 12 - n);
+    put(address, &mut bytes, 12 - n);
     let count = path_count(address);
     Path { bytes, count }
 }

@@ -1,5 +1,5 @@
 // The reply to a command (document 01, 'Reply'; 001, 5.3.2, 5.4.2 and 5.5.2).
-ghost use Rattle.std.specs.Prelude.{◌≡◌, ◌∷◌, [], ◌++◌, cond, ◌&&◌, ◌+◌, ◌^◌, ◌≤◌, ◌<◌, leb, ltb, length};
+ghost use Rattle.std.specs.Prelude.{◌≡◌, ◌∷◌, [], ◌++◌, cond, ◌&&◌, ◌+◌, ◌^◌, ◌≤◌, ◌<◌, is_ok, leb, ltb, length, true};
 ghost use Rattle.octets.specs.Crc.{crc, with_crc};
 ghost use Rattle.octets.specs.Numbers.{bytes_of};
 ghost use Rattle.octets.specs.Places.{part, placed};
@@ -9,8 +9,9 @@ ghost use Rattle.packets.specs.Reply.{reply_start, reply_head, reply_with, data_
 ghost use Rattle.packets.specs.Reply.{reply_length, reply_fits, replied};
 
 use crate::path::Path;
+use crate::places::put;
 use crate::reading::Command;
-use octets::Octets;
+use octets::{NoRoom, Octets};
 
 // A reply, less its data: the command that it answers, and the status.
 #[derive(Clone, Copy, PartialEq, Eq)]
@@ -31,19 +32,21 @@ pub enum Data<'a> {
 }
 
 impl Reply {
-    // Writes the reply at the start of a lent buffer, all or nothing. True if it did. The data come first, so that their CRC is taken
+    // Writes the reply at the start of a lent buffer, all or nothing. The data come first, so that their CRC is taken
     // where they stand.
-    pub fn write(self, bytes: Data, out: &mut [u8]) -> bool
-        ensures answers { result ≡ reply_fits self.command.path self.command.header self.status (data_size bytes.entry) (length out.old) }
+    pub fn write(self, bytes: Data, out: &mut [u8]) -> Result<(), NoRoom>
+        ensures answers { is_ok result ≡ reply_fits self.command.path self.command.header self.status (data_size bytes.entry) (length out.old) }
         ensures leaves { out.new ≡ replied self.command.path self.command.header self.status (data_in self.command.path bytes.entry out.old) out.old }
     {
         let n = self.carried_count(bytes.size());
         if !self.fits(n, out.len()) {
-            return false;
+            return Err(NoRoom);
         }
-        self.put(bytes, n, out);
+        if self.carries_data() {
+            self.put_data(bytes, out);
+        }
         self.surround(n as u32, out);
-        true
+        Ok(())
     }
 
     // Where the data stand, if it carries any.
@@ -92,22 +95,15 @@ impl Reply {
         (n <= 0xFF_FFFF) && (self.length(n as u32) <= room)
     }
 
-    // Puts the n bytes of data that are carried into their place. Where none are, nothing changes, also where the place would be past
-    // the buffer.
-    fn put(self, bytes: Data, n: usize, out: &mut [u8])
-        requires { n ≡ Reply·carried_count self.command.header self.status (data_size bytes) }
-        ensures size { length out.new ≡ length out.old }
-        ensures none { n ≡ 0 → out.new ≡ out.old }
-        ensures some { Reply·data_place self.command.path + n ≤ length out.old → out.new ≡ placed (Reply·data_place self.command.path) (carried self.command.header self.status (data_in self.command.path bytes.entry out.old)) out.old }
+    // Puts the data into their place.
+    fn put_data(self, bytes: Data, out: &mut [u8])
+        requires { Reply·data_place self.command.path + data_size bytes ≤ length out.old }
+        ensures { out.new ≡ placed (Reply·data_place self.command.path) (data_in self.command.path bytes.entry out.old) out.old }
     {
         let at = self.data_place();
         match bytes {
-            Data::Bytes(these) => {
-                octets::copy_part(these, 0, n, out, at);
-            }
-            Data::Repeated(byte, _) => {
-                octets::fill(out, at, n, byte);
-            }
+            Data::Bytes(these) => put(these, out, at),
+            Data::Repeated(byte, count) => out[at..at + count as usize].fill(byte),
             Data::InPlace(_) => {}
         }
     }
@@ -135,11 +131,11 @@ impl Reply {
         write_path(path, out);
         if self.is_to_write() {
             let head = self.short_head();
-            octets::copy_part(&head, 0, 8, out, size);
+            put(&head, out, size);
             return size + 8;
         }
         let head = self.long_head(count);
-        octets::copy_part(&head, 0, 12, out, size);
+        put(&head, out, size);
         size + 12
     }
 
@@ -201,7 +197,7 @@ fn write_path(path: Path, out: &mut [u8])
     ensures { out.new ≡ placed 0 (path_bytes path) out.old }
 {
     let size = path.size();
-    octets::copy_part(&path.bytes, 12 - size, size, out, 0);
+    put(&path.bytes[12 - size..], out, 0);
 }
 
 // Writes their CRC behind the `count` bytes of data at `at`.
@@ -211,5 +207,5 @@ fn end_data(at: usize, count: usize, out: &mut [u8])
 {
     let end = at + count;
     let k = octets::crc_of(&out[at..end]);
-    octets::fill(out, end, 1, k);
+    put(&[k], out, end);
 }

@@ -52,22 +52,22 @@ fn answer(to: Reply, action: Action, unit: Unit, link: u8, memory: &[u8], out: &
         | Action::Store(_, _, _)
         | Action::StoreLast(_, _, _)
         | Action::WriteField(_, _) => {
-            to.write(Data::Bytes(&[]), out);
+            to.write(Data::Bytes(&[]), out).unwrap();
         }
         Action::ReadMemory(at, count) | Action::Combine(at, _, count) => {
             answer_memory(to, memory, at, count, out);
         }
         Action::RepeatByte(at, count) => {
             let byte = byte_at(memory, at, count);
-            to.write(Data::Repeated(byte, count), out);
+            to.write(Data::Repeated(byte, count), out).unwrap();
         }
         Action::ReadFields(address, count) => {
             let bytes = shown(unit, link, address, count);
-            to.write(Data::Bytes(&bytes[..4 * count]), out);
+            to.write(Data::Bytes(&bytes[..4 * count]), out).unwrap();
         }
         Action::Swap(_, _) => {
             let device: [u8; 4] = unit.owner.device.to_octets();
-            to.write(Data::Bytes(&device), out);
+            to.write(Data::Bytes(&device), out).unwrap();
         }
     }
 }
@@ -79,7 +79,7 @@ fn answer_memory(to: Reply, memory: &[u8], at: usize, count: usize, out: &mut [u
 {
     let place = to.data_place();
     gather(memory, at, &mut out[place..place + count]);
-    to.write(Data::InPlace(count as u32), out);
+    to.write(Data::InPlace(count as u32), out).unwrap();
 }
 
 // The byte at a place of memory, which is to be repeated. Where that is 0 times, there may be none.

@@ -68,7 +68,7 @@ pub(crate) fn reply(name: &[u8], packet: &[u8], status: u8, room: usize, bytes: 
     match command(packet) {
         Some(command) => {
             let did = Reply { command, status }.write(bytes, out);
-            edges::outcome(name, did, out);
+            edges::outcome(name, did.is_ok(), out);
         }
         None => say!("no command\n"),
     }

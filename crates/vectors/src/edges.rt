@@ -29,19 +29,19 @@ pub(crate) fn bytes_of_numbers() {
 pub(crate) fn copy(name: &[u8], from: usize, count: usize, at: usize) {
     let mut b = LENT;
     let did = octets::copy_part(&[0xa0, 0xa1, 0xa2, 0xa3], from, count, &mut b, at);
-    outcome(name, did, &b);
+    outcome(name, did.is_ok(), &b);
 }
 
 pub(crate) fn fill(name: &[u8], at: usize, count: usize) {
     let mut b = LENT;
     let did = octets::fill(&mut b, at, count, 0xee);
-    outcome(name, did, &b);
+    outcome(name, did.is_ok(), &b);
 }
 
 pub(crate) fn write(name: &[u8], at: usize, width: usize, n: u64) {
     let mut b = LENT;
     let did = octets::write_number(&mut b, at, width, n);
-    outcome(name, did, &b);
+    outcome(name, did.is_ok(), &b);
 }
 
 pub(crate) fn read(name: &[u8], at: usize, width: usize) {

@@ -1,8 +1,6 @@
 -- `packets::ccsds::write_ccsds` meets its contract: 41 goes before 42; else four bytes are put before the space packet, at the start.
 use Rattle.std.specs.Prelude.{Ok, Err}
-use Rattle.std.proofs.Common.{◌≡◌, [], ◌∷◌, ◌+◌, refl, sym, ◌∙◌, length, arith}
-use Rattle.octets.specs.Places.{placed}
-use Rattle.octets.proofs.PlaceLaws.{copied_done}
+use Rattle.std.proofs.Common.{[], ◌∷◌, ◌+◌, refl, sym, ◌∙◌, length, arith}
 use Rattle.packets.specs.declared.ccsds.Unsent.TheVariants.{WrongSpacePacket, OutputTooShort}
 use Rattle.packets.proofs.ReplyLaws.{head_placed}
 use Rattle.packets.proofs.CcsdsLaws.{sending_wrong, sending_short, sending_all, sent_by}
@@ -28,6 +26,5 @@ returns c =
     let right = sym c.is_space_packet.ensures ∙ c.if-not-is_space_packet.false in
     let e = sending_all a.space.now (length a.out.now) right (omega arith) in
     let front = a.address ∷ 0x02 ∷ 0x00 ∷ a.application ∷ [] in
-    let first : c.copy_part.new.dst ≡ placed 0 front a.out.now = c.copy_part.ensures.leaves ∙ copied_done front 0 4 a.out.now 0 (omega arith) (omega arith) in
-    let then = head_placed front a.space.now a.out.now 4 (length a.space.now) refl refl (omega arith) first c.copy_part-2.ensures.leaves in
+    let then = head_placed front a.space.now a.out.now 4 (length a.space.now) refl refl (omega arith) c.put.ensures c.put-2.ensures in
     record { answers = sym e; leaves = then ∙ sym (sent_by a.address a.application a.space.now a.out.now (Ok (4 + length a.space.now)) e) }

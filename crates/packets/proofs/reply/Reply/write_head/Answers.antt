@@ -13,7 +13,7 @@ returns-then-is_to_write c =
     let room = rw e at c.requires in
     let x = path_bytes a.self.command.path in
     let out = head_placed x c.short_head-head.result a.out.now c.size-size.result 8 c.size-size.ensures.answers
-    (ap length c.short_head-head.ensures) (omega arith) c.write_path.ensures c.copy_part.ensures.leaves in
+    (ap length c.short_head-head.ensures) (omega arith) c.write_path.ensures c.put.ensures in
     record { answers = rw (e, c.size-size.ensures.answers); leaves = rw (e, ← c.short_head-head.ensures) out }
 
 pub returns : goal.returns
@@ -23,5 +23,5 @@ returns c =
     let room = rw e at c.requires in
     let x = path_bytes a.self.command.path in
     let out = head_placed x c.long_head-head.result a.out.now c.size-size.result 12 c.size-size.ensures.answers
-    (ap length c.long_head-head.ensures) (omega arith) c.write_path.ensures c.copy_part-2.ensures.leaves in
+    (ap length c.long_head-head.ensures) (omega arith) c.write_path.ensures c.put-2.ensures in
     record { answers = rw (e, c.size-size.ensures.answers); leaves = rw (e, ← c.long_head-head.ensures) out }
