@@ -30,6 +30,15 @@ pub enum Data<'a> {
     InPlace(u32),
 }
 
+impl Path {
+    // Where the data of a reply stand, if it carries any.
+    pub fn data_place(self) -> usize
+        ensures { result ≡ Reply·data_place self }
+    {
+        self.size() + 12
+    }
+}
+
 impl Reply {
     // Writes the reply at the start of a lent buffer, all or nothing. True if it did. The data come first, so that their CRC is taken
     // where they stand.
@@ -44,13 +53,6 @@ impl Reply {
         self.put(bytes, n, out);
         self.surround(n as u32, out);
         true
-    }
-
-    // Where the data stand, if it carries any.
-    pub fn data_place(self) -> usize
-        ensures { result ≡ Reply·data_place self.command.path }
-    {
-        self.command.path.size() + 12
     }
 
     // How long the reply is, where `count` bytes of data go with it if it carries data.
@@ -100,7 +102,7 @@ impl Reply {
         ensures none { n ≡ 0 → out.new ≡ out.old }
         ensures some { Reply·data_place self.command.path + n ≤ length out.old → out.new ≡ placed (Reply·data_place self.command.path) (carried self.command.header self.status (data_in self.command.path bytes.entry out.old)) out.old }
     {
-        let at = self.data_place();
+        let at = self.command.path.data_place();
         match bytes {
             Data::Bytes(these) => {
                 octets::copy_part(these, 0, n, out, at);
