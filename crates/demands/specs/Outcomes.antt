@@ -41,7 +41,7 @@ use Rattle.packets.proofs.reading.Refusal.number.Reads.{Asked as asked·Refusal�
 use Rattle.packets.proofs.bare.Reads.{Asked as asked·bare, Learnt as promise·bare}
 use Rattle.packets.proofs.read_packet.Reads.{Asked as asked·read_packet, Learnt as promise·read_packet}
 use Rattle.packets.proofs.reply.Reply.write.Reads.{Asked as asked·Reply·write, Learnt as promise·Reply·write}
-use Rattle.packets.proofs.reply.Reply.data_place.Reads.{Asked as asked·Reply·data_place, Learnt as promise·Reply·data_place}
+use Rattle.packets.proofs.path.Path.data_place.Reads.{Asked as asked·Path·data_place, Learnt as promise·Path·data_place}
 use Rattle.packets.proofs.reply.Reply.length.Reads.{Asked as asked·Reply·length, Learnt as promise·Reply·length}
 use Rattle.packets.proofs.time_number.Reads.{Asked as asked·time_number, Learnt as promise·time_number}
 use Rattle.packets.proofs.read_time.Reads.{Asked as asked·read_time, Learnt as promise·read_time}
@@ -142,7 +142,7 @@ PacketsDetermined =
     × (OneResult promise·read_packet)
     × (OneResult promise·Reply·write)
     × (OneExit promise·Reply·write (λ κs e. (third e).now))  -- the reply buffer
-    × (OneResult promise·Reply·data_place)
+    × (OneResult promise·Path·data_place)
     × (OneResult promise·Reply·length)
     × (OneResult promise·time_number)
     × (OneResult promise·read_time)
@@ -234,7 +234,7 @@ PacketsAskNothing =
     × AsksNothing asked·bare
     × AsksNothing asked·read_packet
     × AsksNothing asked·Reply·write
-    × AsksNothing asked·Reply·data_place
+    × AsksNothing asked·Path·data_place
     × AsksNothing asked·Reply·length
     × AsksNothing asked·time_number
     × AsksNothing asked·read_time

@@ -31,6 +31,15 @@ pub enum Data<'a> {
     InPlace(u32),
 }
 
+impl Path {
+    // Where the data of a reply stand, if it carries any.
+    pub fn data_place(self) -> usize
+        ensures { result ≡ Reply·data_place self }
+    {
+        self.size() + 12
+    }
+}
+
 impl Reply {
     // Writes the reply at the start of a lent buffer, all or nothing. The data come first, so that their CRC is taken
     // where they stand.
@@ -47,13 +56,6 @@ impl Reply {
         }
         self.surround(n as u32, out);
         Ok(())
-    }
-
-    // Where the data stand, if it carries any.
-    pub fn data_place(self) -> usize
-        ensures { result ≡ Reply·data_place self.command.path }
-    {
-        self.command.path.size() + 12
     }
 
     // How long the reply is, where `count` bytes of data go with it if it carries data.
@@ -100,7 +102,7 @@ impl Reply {
         requires { Reply·data_place self.command.path + data_size bytes ≤ length out.old }
         ensures { out.new ≡ placed (Reply·data_place self.command.path) (data_in self.command.path bytes.entry out.old) out.old }
     {
-        let at = self.data_place();
+        let at = self.command.path.data_place();
         match bytes {
             Data::Bytes(these) => put(these, out, at),
             Data::Repeated(byte, count) => out[at..at + count as usize].fill(byte),

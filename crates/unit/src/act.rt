@@ -77,7 +77,7 @@ fn answer_memory(to: Reply, memory: &[u8], at: usize, count: usize, out: &mut [u
     requires { (at + count ≤ length memory.now) × Gatherable count to.command.header to.command.path to.status (length out.old) }
     ensures { out.new ≡ replied to.command.path to.command.header to.status (part at count memory.now) out.old }
 {
-    let place = to.data_place();
+    let place = to.command.path.data_place();
     gather(memory, at, &mut out[place..place + count]);
     write(to, Data::InPlace(count as u32), out);
 }
