@@ -1,15 +1,25 @@
 -- Outcomes are determined: no function has a `requires`, and each promise has equations for the result and for each lent buffer, or one for them all.
-use mathlib.Core.Path.{ap, sym, ◌∙◌}
+use mathlib.Core.Path.{◌≡◌, refl, ap, sym, ◌∙◌}
+use mathlib.Core.Bool.{false≢true}
+use Rattle.std.specs.Prelude.{Result, Ok, Err, is_ok}
+use Rattle.octets.specs.declared.copies.NoRoom.{NoRoom}
 use Rattle.unit.specs.Calls.{Outcome}
 use Rattle.demands.specs.Outcomes.{OctetsDetermined, PacketsDetermined, UnitDetermined, RecordsDetermined, TerminalDetermined, ScriptDetermined}
 use Rattle.demands.specs.Outcomes.{OctetsAskNothing, PacketsAskNothing, UnitAsksNothing, RecordsAskNothing, TerminalAsksNothing, ScriptAsksNothing}
+
+-- Ok and one refusal: whether it is Ok says which.
+one_answer : (z z' : Result Unit NoRoom) → is_ok z ≡ is_ok z' → z ≡ z'
+one_answer (Ok x) (Ok y) e = refl
+one_answer (Ok x) (Err y) e = absurd (false≢true (sym e))
+one_answer (Err x) (Ok y) e = absurd (false≢true e)
+one_answer (Err x) (Err y) e = refl
 
 pub octets_determined : OctetsDetermined
 octets_determined = (
   λ κs a z z' e e' p q. p ∙ sym q,
   λ κs a z z' e e' p q. p ∙ sym q,
   λ κs a z z' e e' p q. p ∙ sym q,
-  λ κs a z z' e e' p q. p.0 ∙ sym q.0,
+  λ κs a z z' e e' p q. one_answer z z' (p.0 ∙ sym q.0),
   λ κs a z z' e e' p q. p.1 ∙ sym q.1,
   λ κs a z z' e e' p q. p ∙ sym q,
   λ κs a z z' e e' p q. p ∙ sym q,
@@ -21,11 +31,11 @@ octets_determined = (
   λ κs a z z' e e' p q. p ∙ sym q,
   λ κs a z z' e e' p q. p ∙ sym q,
   λ κs a z z' e e' p q. p ∙ sym q,
-  λ κs a z z' e e' p q. p.0 ∙ sym q.0,
+  λ κs a z z' e e' p q. one_answer z z' (p.0 ∙ sym q.0),
   λ κs a z z' e e' p q. p.1 ∙ sym q.1,
-  λ κs a z z' e e' p q. p.0 ∙ sym q.0,
+  λ κs a z z' e e' p q. one_answer z z' (p.0 ∙ sym q.0),
   λ κs a z z' e e' p q. p.1 ∙ sym q.1,
-  λ κs a z z' e e' p q. p.0 ∙ sym q.0,
+  λ κs a z z' e e' p q. one_answer z z' (p.0 ∙ sym q.0),
   λ κs a z z' e e' p q. p.1 ∙ sym q.1,
 )
 
@@ -52,7 +62,7 @@ packets_determined = (
   λ κs a z z' e e' p q. p ∙ sym q,
   λ κs a z z' e e' p q. p ∙ sym q,
   λ κs a z z' e e' p q. p ∙ sym q,
-  λ κs a z z' e e' p q. p.0 ∙ sym q.0,
+  λ κs a z z' e e' p q. one_answer z z' (p.0 ∙ sym q.0),
   λ κs a z z' e e' p q. p.1 ∙ sym q.1,
   λ κs a z z' e e' p q. p ∙ sym q,
   λ κs a z z' e e' p q. p ∙ sym q,

@@ -8,7 +8,13 @@ ghost use Rattle.octets.specs.Places.{within as Places·within};
 pub struct NoRoom;
 
 // Copies `count` bytes of src, from `from` on, into dst, from `at` on.
-pub fn copy_part(src: &[u8], from: usize, count: usize, dst: &mut [u8], at: usize) -> Result<(), NoRoom>
+pub fn copy_part(
+    src: &[u8],
+    from: usize,
+    count: usize,
+    dst: &mut [u8],
+    at: usize,
+) -> Result<(), NoRoom>
     ensures answers { is_ok result ≡ copy_fits src.now from count dst.old at }
     ensures leaves { dst.new ≡ copied src.now from count dst.old at }
 {

@@ -9,13 +9,12 @@ use native.Mathlib.Decide.{dec_le}
 use native.Mathlib.Nat.{lt_of_not-le, zero-add}
 use borrow.Author.Tests.{ltb-true, leb-true, lt-leb, not-true}
 use lib.Dec.{eqb, leb, ltb}
-use lib.ListN.{length, replicate, length-append, length-replicate, length-take, length-drop}
-use lib.Seq.{take-length}
-use Rattle.octets.specs.Places.{part, placed, copied, filled}
+use lib.ListN.{length, length-append, length-replicate, length-take, length-drop}
+use Rattle.octets.specs.Places.{part, placed}
 use Rattle.octets.specs.Numbers.{bytes_of}
 use Rattle.octets.specs.Crc.{crc, with_crc}
 use Rattle.octets.proofs.PlaceLaws.{length_placed, length_part, part_placed, part_beside, placed_on, placed_same, placed_hides}
-use Rattle.octets.proofs.PlaceLaws.{copied_done, filled_done, placed_if_length, first_true, second_true}
+use Rattle.octets.proofs.PlaceLaws.{placed_if_length, first_true, second_true}
 use Rattle.packets.specs.Instruction.{is_write}
 use Rattle.packets.specs.Path.{path_bytes}
 use Rattle.packets.specs.Reply.{reply_start, reply_head, reply_with, data_place, data_in, data_size, carries_data, carried, carried_count, reply_of, reply_length, reply_fits, replied}

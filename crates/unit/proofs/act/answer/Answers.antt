@@ -28,13 +28,13 @@ returns-in-ReadMemory c = grind (arith, common_steps)
 pub returns-in-RepeatByte : goal.returns-in-RepeatByte
 unfolding data_for
 returns-in-RepeatByte c =
-    rw (c.in-RepeatByte.is, ← c.byte_at-byte.ensures) c.write-in-RepeatByte.ensures.leaves
+    rw (c.in-RepeatByte.is, ← c.byte_at-byte.ensures) c.write-in-RepeatByte.ensures
 
 pub returns-in-ReadFields : goal.returns-in-ReadFields
 unfolding data_for
-returns-in-ReadFields c = rw (c.in-ReadFields.is, ← c.shown-bytes.ensures) c.write-in-ReadFields.ensures.leaves
+returns-in-ReadFields c = rw (c.in-ReadFields.is, ← c.shown-bytes.ensures) c.write-in-ReadFields.ensures
 
 pub returns-in-Swap : goal.returns-in-Swap
 unfolding data_for
 returns-in-Swap c =
-    rw (c.in-Swap.is, ← c.to_octets-device.ensures) c.write-in-Swap.ensures.leaves
+    rw (c.in-Swap.is, ← c.to_octets-device.ensures) c.write-in-Swap.ensures

@@ -30,4 +30,4 @@ returns c =
     let gathered = rw (length_middle place a.count a.out.now there) at c.gather.ensures in
     gathered_reply a.to.command.path a.to.command.header a.to.status a.count a.out.now w.0 w.1 bytes l
     (rw (gathered, ← c.data_place-place.ensures) (put_placed place a.count bytes a.out.now l))
-    c.write.ensures.leaves
+    c.write.ensures

@@ -1,22 +1,18 @@
 -- `packets::reply::Reply::write` meets its contract: the carried data are put into their place, and the rest goes around them.
 use Rattle.std.proofs.Common.{sym, ◌∙◌, arith}
-use Rattle.packets.proofs.ReplyLaws.{placed_length, reply_answer, reply_room, reply_refused, data_room, reply_around, reply_alone}
+use Rattle.packets.proofs.ReplyLaws.{reply_answer, reply_room, reply_refused, data_room, reply_around, reply_alone}
 use Rattle.packets.proofs.reply.Reply.write.Goals.{then-carries_data, else-carries_data}
 use Rattle.packets.proofs.reply.Reply.write.Goals as goal
 
-pub returns-then-not-fits-clause-answers : goal.returns-then-not-fits-clause-answers
-returns-then-not-fits-clause-answers c =
+pub returns-then-not-fits : goal.returns-then-not-fits
+returns-then-not-fits c =
     let a = c.args in
     let k = a.self.command in
     let counts = rw c.size.ensures at c.carried_count-n.ensures in
-    sym c.if-not-fits.true ∙ reply_answer k.path k.header a.self.status a.bytes c.carried_count-n.result counts a.out.now c.fits.ensures
-
-pub returns-then-not-fits-clause-leaves : goal.returns-then-not-fits-clause-leaves
-returns-then-not-fits-clause-leaves c =
-    let a = c.args in
-    let k = a.self.command in
-    let counts = rw c.size.ensures at c.carried_count-n.ensures in
-    reply_refused k.path k.header a.self.status a.bytes c.carried_count-n.result counts a.out.now c.fits.ensures c.if-not-fits.true
+    record {
+      answers = sym c.if-not-fits.true ∙ reply_answer k.path k.header a.self.status a.bytes c.carried_count-n.result counts a.out.now c.fits.ensures;
+      leaves = reply_refused k.path k.header a.self.status a.bytes c.carried_count-n.result counts a.out.now c.fits.ensures c.if-not-fits.true;
+    }
 
 pub put_data-requires : goal.put_data-requires
 put_data-requires c =
@@ -34,23 +30,20 @@ surround-requires c =
     let room = reply_room k.path k.header a.self.status a.bytes c.carried_count-n.result counts a.out.now c.fits.ensures c.if-not-fits.false in
     omega (arith, room)
 
-pub returns-clause-answers : goal.returns-clause-answers
-returns-clause-answers c =
+pub returns : goal.returns
+returns c =
     let a = c.args in
     let k = a.self.command in
     let counts = rw c.size.ensures at c.carried_count-n.ensures in
-    sym c.if-not-fits.false ∙ reply_answer k.path k.header a.self.status a.bytes c.carried_count-n.result counts a.out.now c.fits.ensures
-
-pub returns-clause-leaves : goal.returns-clause-leaves
-returns-clause-leaves c =
-    let a = c.args in
-    let k = a.self.command in
-    let counts = rw c.size.ensures at c.carried_count-n.ensures in
-    elim c.if-carries_data.branch [
-      then-carries_data w ↦
-        reply_around k.path k.header a.self.status a.bytes c.carried_count-n.result counts a.out.now c.fits.ensures c.if-not-fits.false
-        (sym c.carries_data.ensures ∙ w.if-carries_data.true) (w.out-is ∙ w.put_data.ensures) c.surround.ensures
-    | else-carries_data w ↦
-        reply_alone k.path k.header a.self.status a.bytes c.carried_count-n.result counts a.out.now c.fits.ensures c.if-not-fits.false
-        (sym c.carries_data.ensures ∙ w.if-carries_data.false) (rw w.out-is at c.surround.ensures)
-    ]
+    record {
+      answers = sym c.if-not-fits.false ∙ reply_answer k.path k.header a.self.status a.bytes c.carried_count-n.result counts a.out.now c.fits.ensures;
+      leaves =
+          elim c.if-carries_data.branch [
+            | then-carries_data w ↦
+                reply_around k.path k.header a.self.status a.bytes c.carried_count-n.result counts a.out.now c.fits.ensures c.if-not-fits.false
+                (sym c.carries_data.ensures ∙ w.if-carries_data.true) (w.out-is ∙ w.put_data.ensures) c.surround.ensures
+            | else-carries_data w ↦
+                reply_alone k.path k.header a.self.status a.bytes c.carried_count-n.result counts a.out.now c.fits.ensures c.if-not-fits.false
+                (sym c.carries_data.ensures ∙ w.if-carries_data.false) (rw w.out-is at c.surround.ensures)
+          ];
+    }
