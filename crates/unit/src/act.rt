@@ -5,8 +5,7 @@ ghost use Rattle.octets.specs.Places.{part, placed};
 ghost use Rattle.packets.specs.Reply.{data_in, replied};
 ghost use Rattle.unit.specs.Granted.{Readable, Storable, Gatherable, Answerable};
 ghost use Rattle.unit.specs.Fate.{byte_of, fate_number};
-ghost use Rattle.unit.specs.Act.{combine_byte as Act·combine_byte, combined, last_of, stored, data_for, replied_to};
-ghost use Rattle.unit.specs.Act.{field_written, changed, counted_unit};
+ghost use Rattle.unit.specs.Act.{combine_byte as Act·combine_byte, combined, last_of, stored, data_for, replied_to, field_written, changed, counted_unit};
 ghost use Rattle.unit.specs.Fields.{field_of, named, values_of, field_bytes};
 
 use crate::counters::counted;
@@ -162,6 +161,7 @@ fn combine(bytes: &[u8], masks: &[u8], memory: &mut [u8], at: usize)
 }
 
 // Bytes that were read are combined, each with its byte and its mask.
+// Kept: by index; what is written by way of `iter_mut` is not known (NOT_COVERED).
 fn combine_with(bytes: &[u8], masks: &[u8], read: &mut [u8])
     requires { (length bytes.now ≡ length read.old) × (length masks.now ≡ length read.old) }
     ensures { read.new ≡ combined read.old bytes.now masks.now }

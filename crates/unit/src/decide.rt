@@ -7,12 +7,9 @@ ghost use Rattle.octets.specs.Places.{part};
 ghost use Rattle.packets.specs.Instruction.{header_size};
 ghost use Rattle.packets.specs.Header.{kind_in};
 ghost use Rattle.unit.specs.Fate.{is_success};
-ghost use Rattle.unit.specs.Decide.{opening_status as Decide·opening_status, span_size as Decide·span_size, is_authorised as Decide·is_authorised, span_status as Decide·span_status};
-ghost use Rattle.unit.specs.Decide.{is_field_length as Decide·is_field_length, field_count as Decide·field_count, names_fields as Decide·names_fields, offence_in as Decide·offence_in, is_allowed as Decide·is_allowed, fields_status as Decide·fields_status};
-ghost use Rattle.unit.specs.Decide.{header_status as Decide·header_status, wanted_count as Decide·wanted_count, data_status as Decide·data_status, data_status_on};
+ghost use Rattle.unit.specs.Decide.{opening_status as Decide·opening_status, span_size as Decide·span_size, is_authorised as Decide·is_authorised, span_status as Decide·span_status, is_field_length as Decide·is_field_length, field_count as Decide·field_count, names_fields as Decide·names_fields, offence_in as Decide·offence_in, is_allowed as Decide·is_allowed, fields_status as Decide·fields_status, header_status as Decide·header_status, wanted_count as Decide·wanted_count, data_status as Decide·data_status, data_status_on};
 ghost use Rattle.unit.specs.Granted.{WordsThere};
-ghost use Rattle.unit.specs.Plan.{read_action as Plan·read_action, rmw_action as Plan·rmw_action, write_action as Plan·write_action, memory_action as Plan·memory_action, field_action as Plan·field_action};
-ghost use Rattle.unit.specs.Plan.{reply_count as Plan·reply_count, unanswered_fate, planned_for, decided_by_data, decided};
+ghost use Rattle.unit.specs.Plan.{read_action as Plan·read_action, rmw_action as Plan·rmw_action, write_action as Plan·write_action, memory_action as Plan·memory_action, field_action as Plan·field_action, reply_count as Plan·reply_count, unanswered_fate, planned_for, decided_by_data, decided};
 
 use crate::fate::{Fate, Offence, Status, status_byte};
 use crate::fields::{Named, swap_offence};
@@ -50,8 +47,7 @@ impl Asked {
         ensures { result ≡ Decide·opening_status self.command.header key logical }
     {
         let h = self.command.header;
-        let i = h.instruction;
-        if i.packet_type() != 1 {
+        if h.instruction.packet_type() != 1 {
             return Err(Offence::UnusedCode);
         }
         if self.kind == Kind::Unused {
@@ -87,8 +83,7 @@ impl Asked {
         if h.extended != 0 {
             return false;
         }
-        let size = self.span_size();
-        windows.any_allows(self.kind, h.address, size)
+        windows.any_allows(self.kind, h.address, self.span_size())
     }
 
     // The checks of RMAP behind the opening.
@@ -96,14 +91,13 @@ impl Asked {
         ensures { result ≡ Decide·span_status windows self.command.header }
     {
         let h = self.command.header;
-        let i = h.instruction;
         if (self.kind == Kind::ReadModifyWrite) & ((8 < h.length) | (h.length % 2 != 0)) {
             return Err(Offence::RmwLength);
         }
         if !self.is_authorised(windows) {
             return Err(Offence::NotAuthorised);
         }
-        if i.is_write() & i.is_verified() & (1024 < h.length) {
+        if h.instruction.is_write() & h.instruction.is_verified() & (1024 < h.length) {
             return Err(Offence::VerifyOverrun);
         }
         Ok(())
@@ -146,8 +140,7 @@ impl Asked {
     fn header_status(self, unit: Unit, link: u8) -> Status
         ensures { result ≡ Decide·header_status unit self.command.header self.command.path link }
     {
-        let h = self.command.header;
-        if h.protocol == 0x01 {
+        if self.command.header.protocol == 0x01 {
             self.opening_status(unit.key, unit.logical)?;
             return self.span_status(unit.windows);
         }
@@ -204,11 +197,10 @@ impl Asked {
     fn wanted_count(self) -> usize
         ensures { result ≡ Decide·wanted_count self.command.header }
     {
-        let h = self.command.header;
         if self.kind == Kind::Read {
             return 0;
         }
-        h.length as usize + 1
+        self.command.header.length as usize + 1
     }
 }
 
@@ -268,6 +260,7 @@ pub enum Action {
 }
 
 // The fate; the status that is due, also where fate 3 carries none; the action; and the length of the reply, 0 where there is none.
+// Kept: `status` and `length` beside a fate; the public `Meaning` of demands equates `length` with `length_in`, and fate 3 has a status too.
 #[derive(Clone, Copy)]
 pub struct Plan {
     pub fate: Fate,
@@ -328,8 +321,7 @@ impl Asked {
     fn planned(self, status: Status, action: Action, room: usize) -> Plan
         ensures { result ≡ planned_for self.command.header self.command.path status action room }
     {
-        let h = self.command.header;
-        if !h.instruction.wants_reply() {
+        if !self.command.header.instruction.wants_reply() {
             return Plan {
                 fate: unanswered(status),
                 status,

@@ -1,8 +1,7 @@
 // The fields of plug-and-play (document 01, 'Fields'; 000, 5.3.3 and 5.3.4).
 ghost use Rattle.std.specs.Prelude.{◌≡◌, ◌+◌, ◌*◌, ◌^◌, ◌≤◌, take};
 ghost use Rattle.unit.specs.Some.{some};
-ghost use Rattle.unit.specs.Fields.{named, row_in_table, is_missing, right_of as Fields·right_of, offence_of as Fields·offence_of, write_offence as Fields·write_offence, swap_offence as Fields·swap_offence};
-ghost use Rattle.unit.specs.Fields.{link_information as Fields·link_information, path_words as Fields·path_words, values_of, field_bytes, divider_written};
+ghost use Rattle.unit.specs.Fields.{named, row_in_table, is_missing, right_of as Fields·right_of, offence_of as Fields·offence_of, write_offence as Fields·write_offence, swap_offence as Fields·swap_offence, link_information as Fields·link_information, path_words as Fields·path_words, values_of, field_bytes, divider_written};
 
 use crate::fate::{Offence, Status};
 use crate::owner::Owner;
@@ -78,7 +77,7 @@ pub(crate) const TIME_CODE_COUNTER: usize = 11;
 
 pub(crate) const DIVIDER: usize = 14;
 
-// Kept: `values_of` has a row behind the table, for what a field that is not there would read.
+// Kept: `values_of`, which demands reads, has a row behind the table; without it `0 ≡ slice_index values 15` is left of `Named::bytes`.
 const MISSING: usize = 15;
 
 // The row of a field, by its address, if it is in our table: application, protocol and set are what is above the lowest 14 bits.
@@ -190,6 +189,7 @@ pub(crate) struct Named {
 
 impl Named {
     // Whether one of them is not in our table.
+    // Kept: the three loops count; a range of numbers has no clause `runs`, so what `any`, `try_for_each` and the like go through is not known of it.
     pub(crate) fn any_missing(self) -> bool
         ensures { result ≡ some is_missing (named self.address self.count) }
     {

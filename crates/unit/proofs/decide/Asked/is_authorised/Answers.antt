@@ -9,4 +9,4 @@ returns-then-h-ne0 c = rw (ne_eqb _ _ c.if-h-ne0.true)
 
 pub returns : goal.returns
 unfolding is_authorised
-returns c = rw (eq-eqb _ _ c.if-h-ne0.false) (rw (c.span_size-size.ensures, c.args.self.kind_is) at c.any_allows.ensures)
+returns c = rw (eq-eqb _ _ c.if-h-ne0.false) (rw (c.span_size.ensures, c.args.self.kind_is) at c.any_allows.ensures)
