@@ -32,6 +32,7 @@ fn add_places(block: &[u8; 127], from: usize, to: usize, sum: &mut [u8; 127])
     requires { (from ≤ to) × (to ≤ 127) }
     ensures { added_from to sum.new block.now ≡ added_from from sum.old block.now }
 {
+    // Kept: by index; what is written through an iterator is not known afterwards.
     for j in from..to {
         sum[j] ^= block[j];
     }

@@ -1,7 +1,6 @@
 // Copies into a lent buffer, all or nothing: what does not fit changes nothing, and the answer says so.
 ghost use Rattle.std.specs.Prelude.{◌≡◌, ◌+◌, ◌≤◌, length, replicate, is_ok};
-ghost use Rattle.octets.specs.Places.{part, placed, copy_fits, copied, filled};
-ghost use Rattle.octets.specs.Places.{within as Places·within};
+ghost use Rattle.octets.specs.Places.{part, placed, copy_fits, copied, filled, within as Places·within};
 
 // Why nothing was written: something is not all there.
 #[derive(Clone, Copy, PartialEq, Eq)]

@@ -1,7 +1,6 @@
 // The instruction byte (document 01, 'Reading a packet'; 001, 5.1.4).
 ghost use Rattle.std.specs.Prelude.{◌≡◌, ◌+◌, ◌*◌};
-ghost use Rattle.packets.specs.Instruction.{type_of, code_of, kind_of, is_write as Instruction·is_write, is_verified as Instruction·is_verified, wants_reply as Instruction·wants_reply, is_incrementing as Instruction·is_incrementing, r_of};
-ghost use Rattle.packets.specs.Instruction.{reply_address_size as Instruction·reply_address_size, header_size as Instruction·header_size, reply_form as Instruction·reply_form, is_unused as Instruction·is_unused, is_read as Instruction·is_read, is_rmw as Instruction·is_rmw};
+ghost use Rattle.packets.specs.Instruction.{type_of, code_of, kind_of, is_write as Instruction·is_write, is_verified as Instruction·is_verified, wants_reply as Instruction·wants_reply, is_incrementing as Instruction·is_incrementing, r_of, reply_address_size as Instruction·reply_address_size, header_size as Instruction·header_size, reply_form as Instruction·reply_form, is_unused as Instruction·is_unused, is_read as Instruction·is_read, is_rmw as Instruction·is_rmw};
 
 // What a command code asks for.
 #[derive(Clone, Copy, PartialEq, Eq)]

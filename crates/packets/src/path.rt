@@ -18,7 +18,7 @@ impl Path {
         ensures { result ≡ kept [] }
     {
         Path {
-            bytes: [0u8; 12],
+            bytes: [0; 12],
             count: 0,
         }
     }
@@ -46,7 +46,7 @@ pub(crate) fn keep(address: &[u8]) -> Path
     ensures { result ≡ kept address.now }
 {
     let n = address.len();
-    let mut bytes = [0u8; 12];
+    let mut bytes = [0; 12];
     put(address, &mut bytes, 12 - n);
     let count = path_count(address);
     Path { bytes, count }

@@ -5,8 +5,7 @@ ghost use Rattle.octets.specs.Numbers.{bytes_of};
 ghost use Rattle.octets.specs.Places.{part, placed};
 ghost use Rattle.packets.specs.Instruction.{is_write};
 ghost use Rattle.packets.specs.Path.{path_bytes};
-ghost use Rattle.packets.specs.Reply.{reply_start, reply_head, reply_with, data_place as Reply·data_place, data_size, data_in, carries_data as Reply·carries_data, carried, carried_count as Reply·carried_count};
-ghost use Rattle.packets.specs.Reply.{reply_length, reply_fits, replied};
+ghost use Rattle.packets.specs.Reply.{reply_start, reply_head, reply_with, data_place as Reply·data_place, data_size, data_in, carries_data as Reply·carries_data, carried, carried_count as Reply·carried_count, reply_length, reply_fits, replied};
 
 use crate::path::Path;
 use crate::places::put;
@@ -177,7 +176,7 @@ impl Reply {
         let mut head = [
             s[0], s[1], s[2], s[3], s[4], s[5], s[6], 0, n[0], n[1], n[2], 0,
         ];
-        head[11] = octets::crc_of(&head[0..11]);
+        head[11] = octets::crc_of(&head[..11]);
         head
     }
 }
