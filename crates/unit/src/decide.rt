@@ -1,6 +1,6 @@
 // What is to be done with a command (document 01, 'Reading a packet', 'Span', 'Fields'). It is decided before anything is touched, from
 // the unit less its counters and from the packet; what memory holds is not looked at.
-ghost use Rattle.std.specs.Prelude.{◌≡◌, ◌+◌, ◌≤◌, ℕ, true, length, ◌≢◌};
+ghost use Rattle.std.specs.Prelude.{◌≡◌, ◌+◌, ◌≤◌, true, length, ◌≢◌};
 ghost use Rattle.octets.specs.Crc.{crc as Crc·crc};
 ghost use Rattle.octets.specs.Numbers.{number};
 ghost use Rattle.octets.specs.Places.{part};
@@ -204,11 +204,9 @@ impl Asked {
     }
 }
 
-// By the number k of bytes behind the header, and by their CRC, which is worked out only where it bears on the status.
-fn data_status<F: FnOnce() -> u8>(k: usize, crc: F, wanted: usize, end: End) -> Status
-    requires { F.pre crc }
-    ensures a_status { (c : ℕ) × (result ≡ Decide·data_status k c wanted end) }
-    ensures by_crc { (c : ℕ) → ((r : _) → F.post crc r → r ≡ c) → result ≡ Decide·data_status k c wanted end }
+// By the number k of bytes behind the header, and by their CRC.
+fn data_status(k: usize, crc: u8, wanted: usize, end: End) -> Status
+    ensures { result ≡ Decide·data_status k crc wanted end }
 {
     if end != End::Eop {
         return Err(Offence::EndedByEep);
@@ -219,10 +217,24 @@ fn data_status<F: FnOnce() -> u8>(k: usize, crc: F, wanted: usize, end: End) -> 
     if wanted < k {
         return Err(Offence::TooMuchData);
     }
-    if crc() != 0 {
+    if crc != 0 {
         return Err(Offence::DataCrc);
     }
     Ok(())
+}
+
+// The CRC of the bytes behind a header, where it bears on the status: they ended by EOP, and as many came as are wanted. Elsewhere 0, which then gives
+// the same.
+fn data_crc(bytes: &[u8], wanted: usize, end: End) -> u8
+    ensures { Decide·data_status (length bytes.now) result wanted end ≡ Decide·data_status (length bytes.now) (Crc·crc bytes.now) wanted end }
+{
+    if end != End::Eop {
+        return 0;
+    }
+    if bytes.len() != wanted {
+        return 0;
+    }
+    octets::crc_of(bytes)
 }
 
 // ---- the plan
@@ -340,18 +352,10 @@ impl Asked {
 
     // The second half, where the header allows the command: from the bytes at hand, how many came in all, and the CRC of those behind the header.
     // Kept: `came` beside the bytes, since `AtHand` (specs/Decide) is of a packet of which all or only the first are at hand.
-    fn decide_by_data<F: FnOnce() -> u8>(
-        self,
-        bytes: &[u8],
-        came: usize,
-        crc: F,
-        end: End,
-        room: usize,
-    ) -> Plan
-        requires callable { F.pre crc }
+    fn decide_by_data(self, bytes: &[u8], came: usize, crc: u8, end: End, room: usize) -> Plan
         requires whole { header_size self.command.header.instruction ≤ came }
-        requires words { (c : ℕ) → (self.command.header.protocol ≢ 0x01) → is_success (data_status_on self.command.header (record { bytes = bytes.now; came = came; data_crc = c }) end) ≡ true → WordsThere (kind_in self.command.header) (header_size self.command.header.instruction) (length bytes.now) }
-        ensures { (c : ℕ) → ((r : _) → F.post crc r → r ≡ c) → result ≡ decided_by_data self.command.header self.command.path (record { bytes = bytes.now; came = came; data_crc = c }) (data_status_on self.command.header (record { bytes = bytes.now; came = came; data_crc = c }) end) room }
+        requires words { (self.command.header.protocol ≢ 0x01) → is_success (data_status_on self.command.header (record { bytes = bytes.now; came = came; data_crc = crc }) end) ≡ true → WordsThere (kind_in self.command.header) (header_size self.command.header.instruction) (length bytes.now) }
+        ensures { result ≡ decided_by_data self.command.header self.command.path (record { bytes = bytes.now; came = came; data_crc = crc }) (data_status_on self.command.header (record { bytes = bytes.now; came = came; data_crc = crc }) end) room }
     {
         let h = self.command.header;
         let from = h.instruction.header_size();
@@ -416,7 +420,7 @@ fn unanswered(status: Status) -> Fate
     }
 }
 
-// Both halves, where all is at hand.
+// Both halves, where all is at hand. The data are gone through only where their CRC bears on the status.
 pub(crate) fn decide(unit: Unit, command: Command, arrived: Arrived, room: usize) -> Plan
     requires { header_size command.header.instruction ≤ length arrived.packet.now }
     ensures { result ≡ decided unit command.header command.path (record { packet = arrived.entry.packet.now; end = arrived.entry.end; link = arrived.entry.link }) room }
@@ -428,9 +432,6 @@ pub(crate) fn decide(unit: Unit, command: Command, arrived: Arrived, room: usize
     }
     let Arrived { packet, end, .. } = arrived;
     let from = command.header.instruction.header_size();
-    let data = &packet[from..];
-    let crc = || -> u8
-        ensures { result ≡ Crc·crc data.entry.now }
-    { octets::crc_of(data) };
+    let crc = data_crc(&packet[from..], asked.wanted_count(), end);
     asked.decide_by_data(packet, packet.len(), crc, end, room)
 }
