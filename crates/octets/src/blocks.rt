@@ -11,10 +11,8 @@ pub(crate) fn sum_of_blocks(running: u8, bytes: &[u8]) -> [u8; 127]
 {
     let mut sum = [0; 127];
     sum[0] = running;
-    let mut left = bytes;
-    while let Some((block, more)) = left.split_first_chunk::<127>() {
+    for block in bytes.as_chunks::<127>().0 {
         add_block(block, &mut sum);
-        left = more;
     }
     sum
 }
