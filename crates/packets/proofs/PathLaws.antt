@@ -4,7 +4,7 @@ use mathlib.Core.Bool.{Bool, true, false, not, ◌&&◌, false≢true}
 use mathlib.Core.List.{List, [], ◌∷◌, ◌++◌, map, append-nil}
 use Prim.Native.Nat.{ℕ, zero, suc, ◌+◌, ◌-◌, ◌≤◌}
 use native.Mathlib.Omega.{arith}
-use borrow.Author.Tests.{eq-eqb, eqb-true, ne_eqb}
+use borrow.Author.Tests.{le-leb, eq-eqb, eqb-true, ne_eqb}
 use lib.Dec.{eqb}
 use lib.Pointwise.{pointwise}
 use lib.ListN.{length, take, drop, replicate, length-replicate, replicate-append-replicate, length-drop}
@@ -13,7 +13,7 @@ use Rattle.std.specs.Prelude.{position, Some, None, max, min}
 use Rattle.std.specs.List.{position_or_len}
 use Rattle.std.proofs.lemmas.Grind.{common_steps}
 use Rattle.std.proofs.lemmas.List.Quantifiers.{position-Some}
-use Rattle.octets.specs.Places.{part, placed}
+use Rattle.octets.specs.Places.{part, placed, copied}
 use Rattle.octets.proofs.PlaceLaws.{first_true, second_true}
 use Rattle.packets.specs.declared.path.Path.{Path}
 use Rattle.packets.specs.Path.{without_leading_zeros, or_one_zero, path_of, kept, path_bytes, same_bytes, same_path}
@@ -153,6 +153,16 @@ kept_placed a h =
     let k = 12 - n in
     let e : k + n ≡ 12 = omega arith in
     rw (zeros_first k n 12 e, e) (append-nil (replicate k 0 ++ a) ∙ zeros_before a h)
+
+pub kept_copied : (a : List ℕ) → length a ≤ 12 → copied a 0 (length a) (replicate 12 0) (12 - length a) ≡ (kept a).bytes
+unfolding copied
+kept_copied a h =
+    let n = length a in
+    let k = 12 - n in
+    let e : k + n ≡ 12 = omega arith in
+    let f : 0 + n ≤ n = omega arith in
+    let g : k + n ≤ 12 = omega arith in
+    rw (le-leb (0 + n) n f, le-leb (k + n) 12 g, take-length a, zeros_first k n 12 e, e) (append-nil (replicate k 0 ++ a) ∙ zeros_before a h)
 
 -- the path as a part of the twelve bytes
 pub path_part : (k : Path) (n : ℕ) → length k.bytes ≡ 12 → n ≡ length (path_bytes k) → part (12 - n) n k.bytes ≡ path_bytes k

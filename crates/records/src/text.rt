@@ -41,7 +41,7 @@ impl Page<'_> {
         self.put(&[behind]);
     }
 
-    // Kept: by hand. `write!` promises text only where it answers Ok; the kit's `itoa` always does, but a law would tie its digits to `decimal`.
+    // Kept: by hand. `write!` promises text only where it answers Ok; `itoa`'s text would be copied byte by byte all the same, with a law more, which ties it to `decimal`.
     fn put_decimal(&mut self, n: u64)
         requires { HasRoom (decimal n) self.old }
         ensures { Put (decimal n) self.old self.new }

@@ -81,7 +81,7 @@ fn answer_memory(to: Reply, memory: &[u8], at: usize, count: usize, out: &mut [u
     write(to, Data::InPlace(count as u32), out);
 }
 
-// Writes a reply whose room the plan has shown.
+// Writes a reply; where it is refused, what `replied` says is the buffer as it was.
 // Kept: the refusal is not taken up; for `unwrap` it was left to show that the count of a repeated byte is below 2^24, since `judged` is of packets of any numbers.
 fn write(to: Reply, bytes: Data, out: &mut [u8])
     ensures { out.new ≡ replied to.command.path to.command.header to.status (data_in to.command.path bytes.entry out.old) out.old }
@@ -161,7 +161,7 @@ fn combine(bytes: &[u8], masks: &[u8], memory: &mut [u8], at: usize)
 }
 
 // Bytes that were read are combined, each with its byte and its mask.
-// Kept: by index; what is written by way of `iter_mut` is not known (NOT_COVERED).
+// Kept: by index; the library's contracts tell only the length of what `iter_mut` wrote.
 fn combine_with(bytes: &[u8], masks: &[u8], read: &mut [u8])
     requires { (length bytes.now ≡ length read.old) × (length masks.now ≡ length read.old) }
     ensures { read.new ≡ combined read.old bytes.now masks.now }

@@ -14,7 +14,7 @@ use crate::unit::Unit;
 use packets::{Command, End};
 
 // The unit after the call, what became of it, and how many bytes of the reply buffer are the reply, 0 where there is none.
-// Kept: `length` beside the fate; callers read it (C interface, `hello`), and demands' `Meaning` equates it with `length_in`.
+// Kept: `length` beside the fate; callers read it (`records`, `trials`, `hello`), and demands' `Meaning` equates it with `length_in`.
 #[derive(Clone, Copy)]
 pub struct Answer {
     pub unit: Unit,

@@ -225,7 +225,8 @@ fn data_status(k: usize, crc: u8, wanted: usize, end: End) -> Status
 
 // The CRC of the bytes behind a header, where it bears on the status: they ended by EOP, and as many came as are wanted. Elsewhere 0, which then gives
 // the same.
-// Kept: 0 where it does not bear. As a closure, which is called where it does, it proves too, but the contracts of what it is handed to would speak of all that a closure may answer.
+// Kept: 0 where it does not bear. As a closure, which is called where it does, it proves too, but the contracts of what it is handed to would speak of all that a closure may answer;
+// and an Option would give `data_status` a case that its definition does not have.
 fn data_crc(bytes: &[u8], wanted: usize, end: End) -> u8
     ensures { Decide·data_status (length bytes.now) result wanted end ≡ Decide·data_status (length bytes.now) (Crc·crc bytes.now) wanted end }
 {
