@@ -1,5 +1,6 @@
 -- Laws of fields.
-use Rattle.std.proofs.Common.{◌≡◌, not, ℕ, zero, suc, ◌+◌, ◌*◌, ◌/◌, ◌^◌, ◌<◌, ◌≤◌, Bool, true, false, cond, ◌&&◌, ◌||◌, eqb, ltb, leb, ◌⊎◌, List, [], ◌∷◌, ◌++◌, length, get_or, take, drop, sym, refl, ap, ◌∙◌, inl, inr, append_assoc, append-nil, add-one, arith, length-append, drop_of_length-le, drop-cons, ltb-true, eqb-true, leb-true, Option, Some, None, is_some, unwrap_or, Ok, Err}
+use Rattle.std.proofs.Common.{◌≡◌, ℕ, zero, suc, ◌+◌, ◌*◌, ◌/◌, ◌^◌, ◌<◌, ◌≤◌, Bool, true, false, cond, ◌&&◌, ◌||◌, eqb, ltb, leb, ◌⊎◌, List, [], ◌∷◌, ◌++◌, length, get_or, take, drop, sym, refl, ap, ◌∙◌, inl, inr, append_assoc, append-nil, add-one, arith, length-append, drop_of_length-le, drop-cons, ltb-true, eqb-true, leb-true, Option, Some, None, is_some, unwrap_or, Ok, Err}
+use Rattle.std.specs.Option.{option_eq}
 use mathlib.Core.Bool.{false≢true}
 use borrow.Author.Tests.{eqb-false}
 use Rattle.packets.specs.Instruction.{code_of}
@@ -122,14 +123,12 @@ off_table a e = go (eqb (row_of a) missing) refl e
     go true f g = eqb-true (row_of a) missing f
     go false f g = absurd (false≢true (sym (ap is_some g)))
 
-pub off_test : (a : ℕ) {none : Bool} → is_some (row_in_table a) ≡ not none → none ≡ is_missing a
-off_test a {none} e = go (is_missing a) none e
+pub off_test : (a : ℕ) → option_eq eqb (row_in_table a) None ≡ is_missing a
+off_test a = go (is_missing a)
   where
-    go : (t n : Bool) → is_some (cond t None (Some (row_of a))) ≡ not n → n ≡ t
-    go true true e = refl
-    go true false e = e
-    go false true e = e
-    go false false e = refl
+    go : (t : Bool) → option_eq eqb (cond t None (Some (row_of a))) None ≡ t
+    go true = refl
+    go false = refl
 
 written_address : (a : ℕ) → is_success (offence_of (right_of a)) ≡ true → (a ≡ 0x80000) ⊎ (a ≡ 0x80003)
 written_address a e =

@@ -194,7 +194,8 @@ impl Named {
         ensures { result ≡ some is_missing (named self.address self.count) }
     {
         for i in 0..self.count {
-            if row_of(self.address + i as u32).is_none() {
+            let missing = row_of(self.address + i as u32) == None;
+            if missing {
                 return true;
             }
         }

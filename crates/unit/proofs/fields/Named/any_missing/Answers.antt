@@ -9,13 +9,13 @@ use Rattle.unit.proofs.fields.Named.any_missing.Goals as goal
 pub loop-i-init : goal.loop-i-init
 loop-i-init c = refl
 
-pub returns-then-is_none : goal.returns-then-is_none
-returns-then-is_none c = let a = c.args.self in
+pub returns-then-missing : goal.returns-then-missing
+returns-then-missing c = let a = c.args.self in
     let i = c.loop-i.i in
     let l = named a.address a.count in
     let place = ap is_missing (get_or-range_with_len a.address a.count i 0 (omega arith)) in
-    let test : c.is_none.result ≡ is_missing (a.address + i) = off_test (a.address + i) (rw c.row_of.ensures at c.is_none.ensures) in
-    sym (some_hit is_missing l i 0 (rw (length-range_with_len a.address a.count) (omega arith)) (place ∙ sym test ∙ c.if-is_none.true)) ∙ c.loop-i.invariant
+    let test : c.eq-missing.result ≡ is_missing (a.address + i) = rw c.row_of.ensures at c.eq-missing.ensures ∙ off_test (a.address + i) in
+    sym (some_hit is_missing l i 0 (rw (length-range_with_len a.address a.count) (omega arith)) (place ∙ sym test ∙ c.if-missing.true)) ∙ c.loop-i.invariant
 
 pub loop-i-preserved : goal.loop-i-preserved
 loop-i-preserved c =
@@ -23,8 +23,8 @@ loop-i-preserved c =
     let i = c.loop-i.i in
     let l = named a.address a.count in
     let place = ap is_missing (get_or-range_with_len a.address a.count i 0 (omega arith)) in
-    let test : c.is_none.result ≡ is_missing (a.address + i) = off_test (a.address + i) (rw c.row_of.ensures at c.is_none.ensures) in
-    sym (some_miss is_missing l i 0 (rw (length-range_with_len a.address a.count) (omega arith)) (place ∙ sym test ∙ c.if-is_none.false)) ∙ c.loop-i.invariant
+    let test : c.eq-missing.result ≡ is_missing (a.address + i) = rw c.row_of.ensures at c.eq-missing.ensures ∙ off_test (a.address + i) in
+    sym (some_miss is_missing l i 0 (rw (length-range_with_len a.address a.count) (omega arith)) (place ∙ sym test ∙ c.if-missing.false)) ∙ c.loop-i.invariant
 
 pub returns : goal.returns
 returns c =
