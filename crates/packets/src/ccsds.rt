@@ -44,6 +44,7 @@ pub fn read_ccsds(packet: &[u8], end: End, logical: u8) -> Option<u8>
 }
 
 // Document 02's number of what came of that: taken, or thrown away.
+// Kept: a `match`; an Option has no number of its own, and the promise is `ccsds_number_of`.
 pub fn ccsds_number(read: Option<u8>) -> u8
     ensures { result ≡ ccsds_number_of read }
 {

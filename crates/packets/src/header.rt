@@ -6,6 +6,7 @@ use crate::instruction::Instruction;
 use octets::Octets;
 
 // Its parts, less the reply address, which a path keeps, and the CRC.
+// Kept: `protocol` is the byte that came. A reply sends it back (`reply_start`), and definitions compare it (`read_protocol`, `header_status`).
 #[derive(Clone, Copy, PartialEq, Eq)]
 pub struct Header {
     pub target: u8,

@@ -76,6 +76,7 @@ impl Instruction {
     pub const TYPE: u8 = 0b0100_0000;
 
     // Bits 7-6: 0 is a reply, 1 a command, 2 and 3 are unused.
+    // Kept: this and the code are numbers, as their promises say (`type_of`, `code_of`); what a code asks for is a `Kind`.
     pub fn packet_type(self) -> u8
         ensures { result ≡ type_of self }
     {

@@ -34,6 +34,7 @@ pub fn read_time(packet: &[u8], end: End, logical: u8, number: u8) -> Option<Tim
 }
 
 // Document 01's number of what came of that: thrown away, or taken.
+// Kept: a `match`; an Option has no number of its own, and the promise is `time_number_of`.
 pub fn time_number(read: Option<Time>) -> u8
     ensures { result ≡ time_number_of read }
 {

@@ -73,6 +73,7 @@ const RIGHTS: [Right; 15] = [
 ];
 
 // Rows of our table that are named.
+// Kept: numbers, as `row_of` (specs/Fields) has them; what a write is to is matched as `Some(..)` of one.
 pub(crate) const TIME_CODE_COUNTER: usize = 11;
 
 pub(crate) const DIVIDER: usize = 14;
@@ -103,6 +104,7 @@ fn right_of(address: u32) -> Option<Right>
 }
 
 // What a plain write to a field offends.
+// Kept: this and the next are two of document 01's rules, a row for each right, and no conversion.
 fn offence_of(address: u32) -> Status
     ensures { result ≡ Fields·offence_of (Fields·right_of address) }
 {

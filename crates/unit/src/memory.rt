@@ -1,5 +1,6 @@
 // Lent memory. Two functions touch it and no other does: one gathers bytes of it, into a part of a reply or into the few bytes of a local;
 // one scatters bytes into it, of a packet or of such a local. Another form of memory is another arm of these two.
+// Kept: two functions, and no twins; one reads memory and one writes it.
 ghost use Rattle.std.specs.Prelude.{◌≡◌, ◌+◌, ◌≤◌, length};
 ghost use Rattle.octets.specs.Places.{part, placed};
 
