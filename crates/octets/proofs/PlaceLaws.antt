@@ -7,8 +7,7 @@ use Prim.Native.Nat.{ℕ, zero, suc, ◌+◌, ◌-◌, ◌*◌, ◌/◌, ◌<◌
 use native.Mathlib.Omega.{arith}
 use native.Mathlib.Decide.{dec_le}
 use native.Mathlib.Nat.{lt_of_not-le, add_assoc, add-zero, zero-mul}
-use borrow.Author.Tests.{leb-true, le-leb, lt-leb}
-use lib.Dec.{leb}
+use borrow.Author.Tests.{leb-true, le-leb}
 use lib.ListN.{length, get_or, take, drop, replicate, length-replicate, length-append, length-take, length-drop, take-append-drop, drop_of_length-le, get_or-append}
 use borrow.Rule.Slice.PartMut.{put_mid}
 use Rattle.std.proofs.lemmas.Slice.{put_mid-paste}
@@ -18,16 +17,6 @@ use lib.Seq.{ext_get_or, paste, take_all, take-add, take-append_seam, take-appen
 use Rattle.octets.proofs.Tabulate.{tabulate, length_tabulate}
 use Rattle.octets.proofs.Tabulate.{at as at_place}
 use Rattle.octets.specs.Places.{within, part, placed, copy_fits, copied, filled}
-
--- ---- places that are there
-
--- two tests that hold and fail together have one answer
-pub same_test : (a b c d : ℕ) → (a ≤ b → c ≤ d) → (b < a → d < c) → leb a b ≡ leb c d
-same_test a b c d holds fails = go (dec_le a b)
-  where
-    go : Dec (a ≤ b) → leb a b ≡ leb c d
-    go (yes k) = le-leb a b k ∙ sym (le-leb c d (holds k))
-    go (no k) = let l : b < a = lt_of_not-le k in lt-leb a b l ∙ sym (lt-leb c d (fails l))
 
 -- ---- a part
 

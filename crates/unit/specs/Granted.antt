@@ -12,7 +12,7 @@ use Rattle.unit.specs.declared.judging.Ruling.TheVariants.{Ends, SetsTime, Plann
 use Rattle.unit.specs.declared.decide.Action.{Action}
 use Rattle.unit.specs.declared.decide.Action.TheVariants.{Nothing, ReadMemory, RepeatByte, Store, StoreLast, Combine, ReadFields, Swap, WriteField}
 use Rattle.unit.specs.declared.decide.Plan.{Plan}
-use Rattle.unit.specs.declared.calls.Lent.{Lent}
+use Rattle.unit.specs.declared.calls.Lent.{Lent as TheLent}
 
 -- In a packet of n bytes the words are there that a swap or a write to a field reads, from the place `from` on.
 abbrev pub WordsThere : Kind → ℕ → ℕ → Type 0
@@ -76,6 +76,6 @@ GrantedBy (SetsTime t) p m r = Unit
 GrantedBy (Planned c plan) p m r = GrantedTo plan c.header c.path p m r
 
 -- The same memory and reply buffer are lent.
-pub record SameLent (l l' : Lent) : Type 0 where
+pub record SameLent (l l' : TheLent) : Type 0 where
   pub memory : l'.memory.ghost_name ≡ l.memory.ghost_name
   pub reply : l'.reply.ghost_name ≡ l.reply.ghost_name

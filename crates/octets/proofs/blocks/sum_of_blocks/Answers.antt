@@ -1,6 +1,6 @@
 -- `octets::blocks::sum_of_blocks` meets its contract: at each test the CRC of the sum, with the blocks still to come behind it, is that of the whole.
 use native.Mathlib.Omega.{arith}
-use mathlib.Core.Path.{◌≡◌, sym, ap, ◌∙◌}
+use mathlib.Core.Path.{◌≡◌, ap, ◌∙◌}
 use mathlib.Core.List.{List, []}
 use Prim.Native.Nat.{ℕ, ◌+◌, ◌*◌, ◌/◌, ◌≤◌, ◌<◌}
 use borrow.Author.Rules.{rules}
