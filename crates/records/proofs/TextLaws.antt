@@ -56,7 +56,7 @@ hexes_append : (s t : List ℕ) → hexes (s ++ t) ≡ hexes s ++ hexes t
 hexes_append [] t = refl
 hexes_append (b ∷ bs) t = ap (λ (l : List ℕ). glyph (b / 16) ∷ glyph (b % 16) ∷ l) (hexes_append bs t)
 
-hexes_next : (s : List ℕ) (i : ℕ) → i < length s → hexes (take (suc i) s) ≡ hexes (take i s) ++ hex (get_or s i 0)
+pub hexes_next : (s : List ℕ) (i : ℕ) → i < length s → hexes (take (suc i) s) ≡ hexes (take i s) ++ hex (get_or s i 0)
 hexes_next s i h = ap hexes (take-suc s i 0 h) ∙ hexes_append (take i s) (get_or s i 0 ∷ [])
 
 -- a byte behind the first i of them
