@@ -57,7 +57,7 @@ unfolding path_of without_leading_zeros or_one_zero
 one_stays zero = refl
 one_stays (suc b) = refl
 
-zero_goes : (b c : ℕ) (a : List ℕ) → b ≡ 0 → path_of (b ∷ c ∷ a) ≡ path_of (c ∷ a)
+pub zero_goes : (b c : ℕ) (a : List ℕ) → b ≡ 0 → path_of (b ∷ c ∷ a) ≡ path_of (c ∷ a)
 unfolding path_of without_leading_zeros
 zero_goes b c a e = rw e
 
