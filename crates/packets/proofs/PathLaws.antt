@@ -189,7 +189,7 @@ as_path b n = record { bytes = b; count = n }
 
 -- the test says yes exactly if the two are one
 -- what `==` compares of two paths is what the definition compares
-pointwise_same : (a b : List ℕ) → pointwise eqb a b ≡ same_bytes a b
+pub pointwise_same : (a b : List ℕ) → pointwise eqb a b ≡ same_bytes a b
 pointwise_same [] [] = refl
 pointwise_same [] (y ∷ b) = refl
 pointwise_same (x ∷ a) [] = refl
