@@ -77,7 +77,7 @@ hex_step s d at i there room =
 -- ---- a number
 
 -- a place more for its digits makes no difference, once there are enough
-decimal_spare : (most n : ℕ) → n < 10 ^ suc most → decimal_in (suc (suc most)) n ≡ decimal_in (suc most) n
+pub decimal_spare : (most n : ℕ) → n < 10 ^ suc most → decimal_in (suc (suc most)) n ≡ decimal_in (suc most) n
 decimal_spare zero n h = rw (lt-ltb n 10 (omega arith))
 decimal_spare (suc most) n h = go (ltb n 10) (decimal_spare most (n / 10) (let e = pow-succ' 10 (suc most) in omega (arith, e, h)))
   where
