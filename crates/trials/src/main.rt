@@ -5,17 +5,21 @@
 mod lines;
 mod units;
 
-use console::Lines;
+use console::{Lines, read_on};
 use units::Trial;
 
 fn main() {
     let mut trial = Trial::new();
     let mut input = Lines::new();
+    let mut block = io::large_buffer();
     // A proved loop has to end: it counts its turns, up to a number that no run uses up.
     for _ in 0..u64::MAX {
+        read_on!(input, block);
         let Some(line) = input.next() else {
             return;
         };
+        let size = line.len();
         trial.run(line);
+        input.pass(size);
     }
 }

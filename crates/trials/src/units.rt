@@ -79,6 +79,11 @@ impl Trial {
         let room = number(line.next()) as usize;
         let mut bytes = [0u8; 1100];
         let packet = console::bytes(line.left, &mut bytes);
+        self.take(name, packet, end, link, room);
+    }
+
+    // The buffer is filled where it is made: a local of that size is zeroed first where anything comes between.
+    fn take(&mut self, name: &[u8], packet: &[u8], end: End, link: u8, room: usize) {
         let mut out = [0xeeu8; ROOM];
         let reply = &mut out[..room.min(ROOM)];
         let unit = self.unit;

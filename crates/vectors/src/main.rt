@@ -9,7 +9,7 @@ mod instructions;
 mod lines;
 mod times;
 
-use console::Lines;
+use console::{Lines, read_on};
 
 fn main() {
     annex::no_bytes();
@@ -17,11 +17,15 @@ fn main() {
     edges::numbers_of_bytes();
     edges::bytes_of_numbers();
     let mut input = Lines::new();
+    let mut block = io::large_buffer();
     // A proved loop has to end: it counts its turns, up to a number that no run uses up.
     for _ in 0..u64::MAX {
+        read_on!(input, block);
         let Some(line) = input.next() else {
             return;
         };
+        let size = line.len();
         lines::run(line);
+        input.pass(size);
     }
 }
