@@ -1,6 +1,7 @@
 // Text on standard output.
 // Kept: `io::write_all`. A name is bytes, which no format takes, and the programs go on where nothing can be written: `println!` hands that to each caller.
-ghost use Rattle.std.specs.Prelude.{◌≤◌};
+ghost use Rattle.std.specs.Prelude.{◌≡◌, ◌≤◌, [], take};
+ghost use Rattle.console.specs.Text.{held_after};
 
 use std::fmt;
 
@@ -24,7 +25,9 @@ pub struct Text {
 }
 
 impl Text {
-    fn put(&mut self, bytes: &[u8]) {
+    fn put(&mut self, bytes: &[u8])
+        ensures { take self.new.size self.new.space ≡ held_after bytes.now (take self.old.size self.old.space) }
+    {
         if self.space.len() - self.size < bytes.len() {
             io::write_all(1, &self.space[..self.size]);
             self.size = 0;
@@ -41,6 +44,8 @@ impl Text {
 
 // Text that begins with a name.
 impl From<&[u8]> for Text {
+    ghost from_gives = { λ name text. take text.size text.space ≡ held_after name.now [] };
+
     fn from(name: &[u8]) -> Text {
         let mut text = Text {
             space: [0; 256],
