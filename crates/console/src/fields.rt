@@ -16,9 +16,8 @@ impl<'a> Fields<'a> {
         ensures leaves { self.new.left.now ≡ rest_of self.old.left.now }
     {
         let s = self.left;
-        let field = script::field(s);
-        self.left = s.get(field.len() + 1..).unwrap_or(&[]);
-        field
+        self.left = script::rest(s);
+        script::field(s)
     }
 }
 
