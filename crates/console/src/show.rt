@@ -91,6 +91,6 @@ macro_rules! say {
         let _ = std::fmt::Write::write_fmt(&mut text, format_args!($($text)+));
     }};
     ($($text:tt)+) => {
-        $crate::say!(b""; $($text)+)
+        $crate::say!(&b""[..]; $($text)+)
     };
 }
