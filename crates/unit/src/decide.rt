@@ -208,7 +208,8 @@ impl Asked {
 fn data_status(k: usize, crc: u8, wanted: usize, end: End) -> Status
     ensures { result ≡ Decide·data_status k crc wanted end }
 {
-    if !end.is_eop() {
+    let eop = end.is_eop();
+    if !eop {
         return Err(Offence::EndedByEep);
     }
     if k < wanted {
