@@ -1,5 +1,5 @@
 -- The lines of an input that is read in parts.
-use Rattle.std.specs.Prelude.{List, [], ◌++◌, Bool, false, not, cond, ◌&&◌, ℕ, suc, ◌+◌, ◌-◌, min, leb, ltb, length, take, replicate}
+use Rattle.std.specs.Prelude.{List, [], Bool, false, not, cond, ◌&&◌, ℕ, suc, ◌+◌, ◌-◌, min, leb, ltb, length, take, replicate}
 use Rattle.octets.specs.Places.{within, part, placed}
 use Rattle.script.specs.Fields.{up_to, line_end, runnable}
 use Rattle.console.specs.declared.lines.Lines.{Lines}
@@ -15,10 +15,6 @@ none_read = record { space = replicate buffer 0; from = 0; whole = 0; have = 0; 
 -- What is read and not given out: the bytes from `from` up to `have`.
 abbrev pub left : Lines → List ℕ
 left l = cond (within l.from (l.have - l.from) l.space) (part l.from (l.have - l.from) l.space) []
-
--- How many more there is room for.
-abbrev pub room : Lines → ℕ
-room l = buffer - length (left l)
 
 -- A line is there: of the bytes that are not given out, some belong to whole lines, which go up to `whole`.
 abbrev pub has_line : Lines → Bool
@@ -36,17 +32,20 @@ passed size l = record { space = l.space; from = cond (has_line l) (l.from + min
 abbrev pub wants_more : Lines → Bool
 wants_more l = not l.last && not (has_line l)
 
--- These bytes are all that is left, at the buffer's start. The input has ended where they do not fill it, and then all of them are of whole lines.
-abbrev pub read : List ℕ → Lines → Lines
-read bytes l =
-    record {
-      space = placed 0 bytes l.space;
-      from = 0;
-      whole = runnable (ltb (length bytes) buffer) bytes;
-      have = length bytes;
-      last = ltb (length bytes) buffer;
-    }
+-- What is left is at the buffer's start, and behind it is room for more.
+abbrev pub moved : Lines → Lines
+moved l = record { space = placed 0 (left l) l.space; from = 0; whole = 0; have = length (left l); last = l.last }
 
--- After more of the input was put behind what is left, as much as there is room for.
-abbrev pub appended : List ℕ → Lines → Lines
-appended more l = read (left l ++ take (room l) more) l
+-- After n bytes more came behind what was read. The input has ended where they do not fill the buffer, and then all is of whole lines.
+abbrev pub have_come : ℕ → Lines → ℕ
+have_come n l = min (l.have + n) buffer
+
+abbrev pub come : ℕ → Lines → Lines
+come n l =
+    record {
+      space = l.space;
+      from = l.from;
+      whole = runnable (ltb (have_come n l) buffer) (take (have_come n l) l.space);
+      have = have_come n l;
+      last = ltb (have_come n l) buffer;
+    }

@@ -1,13 +1,13 @@
 // The lines of an input that is read in parts.
-ghost use Rattle.std.specs.Prelude.{◌≡◌, IfSome, is_some, length};
+ghost use Rattle.std.specs.Prelude.{◌≡◌, ◌≤◌, IfSome, is_some, length};
 ghost use Rattle.script.specs.Fields.{up_to, line_end};
-ghost use Rattle.console.specs.Lines.{none_read, left as Lines·left, room as Lines·room, has_line as Lines·has_line, line_of, passed, wants_more as Lines·wants_more, appended};
+ghost use Rattle.console.specs.Lines.{none_read, left as Lines·left, has_line as Lines·has_line, line_of, passed, wants_more as Lines·wants_more, moved, come as Lines·come};
 
 // A buffer of 64 KiB: the bytes from `from` up to `have` are read and not given out, and those of them up to `whole` are of whole lines. `last`
 // says that no more come.
 #[derive(Drop)]
 pub struct Lines {
-    space: [u8; 65536],
+    pub space: [u8; 65536],
     from: usize,
     whole: usize,
     have: usize,
@@ -35,25 +35,28 @@ impl Lines {
         !self.last && !self.has_line()
     }
 
-    // How many bytes there is room for.
-    pub fn room(&self) -> usize
-        ensures { result ≡ Lines·room self.now }
-    {
-        self.space.len() - self.left()
-    }
-
-    // Puts more of the input behind what is left, as much as there is room for. Where that does not fill the room, the input has ended.
-    pub fn append(&mut self, more: &[u8])
-        ensures { self.new ≡ appended more.now self.old }
+    // Moves what is left to the buffer's start, and answers how many bytes that is: behind them is room for more.
+    pub fn make_room(&mut self) -> usize
+        ensures answers { result ≡ length (Lines·left self.old) }
+        ensures inside { result ≤ 65536 }
+        ensures leaves { self.new ≡ moved self.old }
     {
         let left = self.left();
         let _ = octets::move_to_start(&mut self.space, self.from, left);
-        let have = left + (self.space.len() - left).min(more.len());
-        self.space[left..have].copy_from_slice(&more[..have - left]);
         self.from = 0;
-        self.have = have;
+        self.whole = 0;
+        self.have = left;
+        left
+    }
+
+    // So many bytes more came behind what was read. Where they do not fill the buffer, the input has ended.
+    pub fn come(&mut self, n: usize)
+        ensures { self.new ≡ Lines·come n self.old }
+    {
+        let have = self.have.saturating_add(n).min(self.space.len());
         self.last = have < self.space.len();
         self.whole = script::runnable(&self.space[..have], self.last);
+        self.have = have;
     }
 
     // The next line, without its end, which the last may lack; none where no whole line is left.
@@ -98,14 +101,14 @@ impl Lines {
     }
 }
 
-// Reads standard input on where more is wanted, by way of a block of 64 KiB. A line that does not fit the buffer with its end is told.
+// Reads standard input on where more is wanted, until the buffer is full or the input ends. A line that does not fit with its end is told.
 #[macro_export]
 macro_rules! read_on {
-    ($lines:expr, $block:expr) => {{
+    ($lines:expr) => {{
         if $lines.wants_more() {
-            let room = $lines.room();
-            let n = io::read_full(0, &mut $block[..room]);
-            $lines.append(&$block[..n]);
+            let have = $lines.make_room();
+            let n = io::read_full(0, &mut $lines.space[have..]);
+            $lines.come(n);
             if $lines.wants_more() {
                 $crate::say!("a line is longer than 65535 bytes\n");
             }

@@ -11,10 +11,9 @@ use units::Trial;
 fn main() {
     let mut trial = Trial::new();
     let mut input = Lines::new();
-    let mut block = io::large_buffer();
     // A proved loop has to end: it counts its turns, up to a number that no run uses up.
     for _ in 0..u64::MAX {
-        read_on!(input, block);
+        read_on!(input);
         let Some(line) = input.next() else {
             return;
         };
