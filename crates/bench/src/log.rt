@@ -41,7 +41,9 @@ impl Log {
     // is room to read into, and 0 bytes read are the end of the log.
     pub(crate) fn read_on(&mut self, rt: &HostRuntime) -> io::Result<()> {
         let kept = self.have - self.from;
-        self.space.copy_within(self.from..self.have, 0);
+        // All of it is there, so the move is never refused.
+        let moved = octets::move_to_start(&mut self.space, self.from, kept).is_ok();
+        prove!(moved);
         self.from = 0;
         self.have = kept;
         let more = rt.stdin().read(&mut self.space[kept..])?;

@@ -8,7 +8,6 @@ ghost use Rattle.std.specs.Prelude.{◌≡◌};
 ghost use Rattle.records.specs.Log.{start_held};
 
 use log::Log;
-use records::Stage;
 use std::fmt;
 
 mod log;
@@ -58,7 +57,7 @@ fn all(rt: &HostRuntime, memory: &mut [u8], reply: &mut [u8]) -> Result<(), Brok
             if !io::write_all(STDOUT, &out[..ran.written]) {
                 return Err(Broken::Output);
             }
-            if bench.stage == Stage::Over {
+            if bench.stage.is_over() {
                 return Ok(());
             }
         }

@@ -16,8 +16,9 @@ impl<'a> Fields<'a> {
         ensures leaves { self.new.left.now ≡ rest_of self.old.left.now }
     {
         let s = self.left;
-        self.left = script::rest(s);
-        script::field(s)
+        let field = script::field(s);
+        self.left = s.get(field.len() + 1..).unwrap_or(&[]);
+        field
     }
 }
 

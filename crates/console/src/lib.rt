@@ -8,4 +8,4 @@ mod show;
 
 pub use fields::{Fields, bytes};
 pub use lines::Lines;
-pub use show::{Out, Row};
+pub use show::{Row, Text};

@@ -82,6 +82,7 @@ unit_determined = (
   λ κs a z z' e e' p q. p ∙ sym q,
   λ κs a z z' e e' p q. p ∙ sym q,
   λ κs a z z' e e' p q. p ∙ sym q,
+  λ κs a z z' e e' p q. p ∙ sym q,
   λ κs a z z' e e' p q. ap (λ (o : Outcome). o.answer) (p ∙ sym q),
   λ κs a z z' e e' p q. ap (λ (o : Outcome). o.memory) (p ∙ sym q),
   λ κs a z z' e e' p q. ap (λ (o : Outcome). o.reply) (p ∙ sym q),
@@ -123,7 +124,7 @@ pub packets_ask_nothing : PacketsAskNothing
 packets_ask_nothing = (λ κs a. tt, λ κs a. tt, λ κs a. tt, λ κs a. tt, λ κs a. tt, λ κs a. tt, λ κs a. tt, λ κs a. tt, λ κs a. tt, λ κs a. tt, λ κs a. tt, λ κs a. tt, λ κs a. tt, λ κs a. tt, λ κs a. tt, λ κs a. tt, λ κs a. tt, λ κs a. tt, λ κs a. tt, λ κs a. tt, λ κs a. tt, λ κs a. tt, λ κs a. tt, λ κs a. tt, λ κs a. tt, λ κs a. tt, λ κs a. tt, λ κs a. tt, λ κs a. tt, λ κs a. tt, λ κs a. tt)
 
 pub unit_asks_nothing : UnitAsksNothing
-unit_asks_nothing = (λ κs a. tt, λ κs a. tt, λ κs a. tt, λ κs a. tt, λ κs a. tt, λ κs a. tt, λ κs a. tt)
+unit_asks_nothing = (λ κs a. tt, λ κs a. tt, λ κs a. tt, λ κs a. tt, λ κs a. tt, λ κs a. tt, λ κs a. tt, λ κs a. tt)
 
 pub records_ask_nothing : RecordsAskNothing
 records_ask_nothing = (λ κs a. tt, λ κs a. tt, λ κs a. tt, λ κs a. tt, λ κs a. tt)

@@ -53,6 +53,7 @@ use Rattle.packets.proofs.write_ccsds.Reads.{Asked as asked·write_ccsds, Learnt
 use Rattle.unit.proofs.status_byte.Reads.{Asked as asked·status_byte, Learnt as promise·status_byte}
 use Rattle.unit.proofs.fate.Fate.number.Reads.{Asked as asked·Fate·number, Learnt as promise·Fate·number}
 use Rattle.unit.proofs.fate.Fate.status.Reads.{Asked as asked·Fate·status, Learnt as promise·Fate·status}
+use Rattle.unit.proofs.owner.OwnerDefault.default.Reads.{Asked as asked·OwnerDefault·default, Learnt as promise·OwnerDefault·default}
 use Rattle.unit.proofs.judge.Reads.{Asked as asked·judge, Learnt as promise·judge}
 use Rattle.unit.proofs.take_packet.Reads.{Asked as asked·take_packet, Learnt as promise·take_packet}
 use Rattle.unit.proofs.take_time_code.Reads.{Asked as asked·take_time_code, Learnt as promise·take_time_code}
@@ -71,7 +72,7 @@ use Rattle.script.proofs.number.Reads.{Asked as asked·number, Learnt as promise
 use Rattle.script.proofs.byte.Reads.{Asked as asked·byte, Learnt as promise·byte}
 use Rattle.script.proofs.bytes.Reads.{Asked as asked·bytes, Learnt as promise·bytes}
 
--- What a function asks and promises, as the checker makes it of the function's own `requires` and `ensures`: a claim on lifetimes and arguments; and one on
+-- What a function asks and promises, as the checker makes it of the function's own `requires` and `ensures` (of `Owner::default`, of the trait's, with the ghost member `is_default`): a claim on lifetimes and arguments; and one on
 -- lifetimes, arguments, result, and what each argument is at exit. That none is left out here the gate looks up (tools/promises).
 
 -- It asks nothing: it checks for itself.
@@ -158,6 +159,7 @@ UnitDetermined =
     (OneResult promise·status_byte)
     × (OneResult promise·Fate·number)
     × (OneResult promise·Fate·status)
+    × (OneResult promise·OwnerDefault·default)
     × (OneResult promise·judge)
     × (OneResult promise·take_packet)
     × (OneExit promise·take_packet (λ κs e. (fifth e).now))  -- memory
@@ -249,6 +251,7 @@ UnitAsksNothing =
     AsksNothing asked·status_byte
     × AsksNothing asked·Fate·number
     × AsksNothing asked·Fate·status
+    × AsksNothing asked·OwnerDefault·default
     × AsksNothing asked·judge
     × AsksNothing asked·take_packet
     × AsksNothing asked·take_time_code

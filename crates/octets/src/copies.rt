@@ -24,7 +24,7 @@ pub fn copy_part(
     Ok(())
 }
 
-// Kept: this and `move_to_start` have no caller here any more; docs/PROMISES.md and `OctetsDetermined` (demands) name their promises.
+// Kept: of the crates here `vectors` alone calls it; docs/PROMISES.md and `OctetsDetermined` (demands) name its promise.
 // Fills `count` places of dst, from `at` on, with one byte.
 pub fn fill(dst: &mut [u8], at: usize, count: usize, byte: u8) -> Result<(), NoRoom>
     ensures answers { is_ok result ≡ Places·within at count dst.old }

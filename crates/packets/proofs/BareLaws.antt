@@ -26,7 +26,7 @@ bare_zero q = refl
 pub bare_begins : (p q : List ℕ) → p ≡ 0x00 ∷ 0xFE ∷ 0x03 ∷ q → drop 1 p ≡ bare p
 bare_begins p q e = ap (drop 1) e ∙ sym (ap bare e ∙ bare_zero q)
 
-has_zero_law : (p : List ℕ) → has_zero p ≡ true → p ≡ 0x00 ∷ 0xFE ∷ 0x03 ∷ drop 3 p
+pub has_zero_law : (p : List ℕ) → has_zero p ≡ true → p ≡ 0x00 ∷ 0xFE ∷ 0x03 ∷ drop 3 p
 has_zero_law [] e = absurd (false≢true e)
 has_zero_law (a ∷ []) e = absurd (false≢true (second_true (eqb a 0x00 && false) false e))
 has_zero_law (a ∷ b ∷ []) e = absurd (false≢true (second_true (eqb a 0x00 && eqb b 0xFE) false e))

@@ -57,7 +57,7 @@ unfolding path_of without_leading_zeros or_one_zero
 one_stays zero = refl
 one_stays (suc b) = refl
 
-zero_goes : (b c : ℕ) (a : List ℕ) → b ≡ 0 → path_of (b ∷ c ∷ a) ≡ path_of (c ∷ a)
+pub zero_goes : (b c : ℕ) (a : List ℕ) → b ≡ 0 → path_of (b ∷ c ∷ a) ≡ path_of (c ∷ a)
 unfolding path_of without_leading_zeros
 zero_goes b c a e = rw e
 
@@ -189,7 +189,7 @@ as_path b n = record { bytes = b; count = n }
 
 -- the test says yes exactly if the two are one
 -- what `==` compares of two paths is what the definition compares
-pointwise_same : (a b : List ℕ) → pointwise eqb a b ≡ same_bytes a b
+pub pointwise_same : (a b : List ℕ) → pointwise eqb a b ≡ same_bytes a b
 pointwise_same [] [] = refl
 pointwise_same [] (y ∷ b) = refl
 pointwise_same (x ∷ a) [] = refl

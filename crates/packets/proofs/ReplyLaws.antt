@@ -168,9 +168,9 @@ module _ (k : Path) (h : Header) (status : ℕ) (b : Data) (m : ℕ) (counts : m
     told : (s : Bool) → t ≡ s → reply_fits k h status (length (data_in k b out)) (length out) ≡ s
     told s e = data_fits k h status b out ∙ sym reply_answer ∙ e
 
-    pub reply_refused : t ≡ false → out ≡ replied k h status (data_in k b out) out
+    pub reply_refused : t ≡ false → (false ≡ reply_fits k h status (data_size b) (length out)) × (out ≡ replied k h status (data_in k b out) out)
     unfolding replied
-    reply_refused e = rw (told false e)
+    reply_refused e = (sym e ∙ reply_answer, rw (told false e))
 
     -- where data are carried, their place is there
     pub data_room : t ≡ true → carries_data h status ≡ true → data_place k + data_size b ≤ length out

@@ -30,7 +30,7 @@ pub fn read_ccsds(packet: &[u8], end: End, logical: u8) -> Option<u8>
     if packet.len() < 4 {
         return None;
     }
-    let eop = end == End::Eop;
+    let eop = end.is_eop();
     let right = is_space_packet(&packet[4..]);
     if ((packet[0] == logical) | (packet[0] == 0xFE))
         & (packet[1] == 0x02)

@@ -11,7 +11,7 @@ pub enum Kind {
     Write,
 }
 
-// Kept: three public functions whose promises docs/PROMISES.md and `PacketsDetermined` (demands) name; the code asks by `==`.
+// Kept: three functions that only say `==`. What `unit` asks of a kind goes by their promises, which docs/PROMISES.md and `PacketsDetermined` (demands) name.
 impl Kind {
     pub fn is_unused(self) -> bool
         ensures { result ≡ Instruction·is_unused self }

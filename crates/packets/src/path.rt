@@ -32,7 +32,7 @@ impl Path {
     }
 
     // Whether two kept paths are one: all twelve bytes and the count.
-    // Kept: public, and its promise stands in docs/PROMISES.md and `PacketsDetermined` (demands); the code asks by `==`.
+    // Kept: it only says `==`. The owner's path is compared by it (`Owner::is`, in `unit`), and docs/PROMISES.md and `PacketsDetermined` (demands) name its promise.
     pub fn same(self, other: Path) -> bool
         ensures { result ≡ same_path self other }
     {

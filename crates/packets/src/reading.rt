@@ -40,7 +40,7 @@ pub struct Command {
     pub path: Path,
 }
 
-// Kept: a public function whose promise docs/PROMISES.md and `PacketsDetermined` (demands) name; the code asks by `==`.
+// Kept: a function that only says `==`. Whoever asks for the end goes by its promise, which docs/PROMISES.md and `PacketsDetermined` (demands) name.
 impl End {
     pub fn is_eop(self) -> bool
         ensures { result ≡ Reading·is_eop self }

@@ -70,7 +70,7 @@ fn is_time_packet(p: &[u8], end: End, logical: u8, number: u8) -> bool
     if p.len() != 12 + seconds + added_fraction(octet) {
         return false;
     }
-    let eop = end == End::Eop;
+    let eop = end.is_eop();
     let zeros = are_zeros(&p[4..4 + seconds]);
     let sum = octets::crc_of(p);
     eop & ((p[0] == logical) | (p[0] == 0xFE))

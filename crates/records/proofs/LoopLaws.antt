@@ -8,7 +8,7 @@ use Rattle.records.specs.declared.log.Held.{Held as HeldNow}
 use Rattle.records.specs.declared.text.Page.{Page}
 use Rattle.records.specs.Text.{end_line, bad_line}
 use Rattle.records.specs.Log.{number_after, Held, lent_by, outcome_of, last_line}
-use Rattle.records.specs.Run.{next_of, Progress, text_of, stepped, longest_line, next_step, steps_left, ran, begun, answer_of}
+use Rattle.records.specs.Run.{next_of, Progress, text_of, stepped, longest_line, next_step, steps_left, ran, answer_of}
 use Rattle.records.specs.declared.bench.Bench.{Bench}
 use Rattle.records.specs.declared.log.Ran.{Ran}
 use Rattle.records.specs.declared.log.Next.{Next}
@@ -47,13 +47,11 @@ rest_is log used = take_all (length log - used) (drop used log) (omega (arith, l
 abbrev pub reached : HeldNow → ℕ → Page → Progress
 reached h used p = record { held = held_in h; used = used; text = take p.at p.out.now }
 
-module _ (log : List ℕ) (last : Bool) (h₀ : HeldNow) (p₀ : Page) where
-  -- how much room a call has, and how it begins
+-- of a run from any `first` on
+module _ (log : List ℕ) (last : Bool) (h₀ : HeldNow) (p₀ : Page) (first : Progress) where
+  -- how much room a call has
   abbrev all : ℕ
   all = length p₀.out.now
-
-  abbrev first : Progress
-  first = begun (held_in h₀)
 
   pub record Got (h : HeldNow) (used : ℕ) (p : Page) : Type 0 where
     pub lent : SameLent h₀ h

@@ -56,7 +56,7 @@ hexes_append : (s t : List ℕ) → hexes (s ++ t) ≡ hexes s ++ hexes t
 hexes_append [] t = refl
 hexes_append (b ∷ bs) t = ap (λ (l : List ℕ). glyph (b / 16) ∷ glyph (b % 16) ∷ l) (hexes_append bs t)
 
-hexes_next : (s : List ℕ) (i : ℕ) → i < length s → hexes (take (suc i) s) ≡ hexes (take i s) ++ hex (get_or s i 0)
+pub hexes_next : (s : List ℕ) (i : ℕ) → i < length s → hexes (take (suc i) s) ≡ hexes (take i s) ++ hex (get_or s i 0)
 hexes_next s i h = ap hexes (take-suc s i 0 h) ∙ hexes_append (take i s) (get_or s i 0 ∷ [])
 
 -- a byte behind the first i of them
@@ -77,7 +77,7 @@ hex_step s d at i there room =
 -- ---- a number
 
 -- a place more for its digits makes no difference, once there are enough
-decimal_spare : (most n : ℕ) → n < 10 ^ suc most → decimal_in (suc (suc most)) n ≡ decimal_in (suc most) n
+pub decimal_spare : (most n : ℕ) → n < 10 ^ suc most → decimal_in (suc (suc most)) n ≡ decimal_in (suc most) n
 decimal_spare zero n h = rw (lt-ltb n 10 (omega arith))
 decimal_spare (suc most) n h = go (ltb n 10) (decimal_spare most (n / 10) (let e = pow-succ' 10 (suc most) in omega (arith, e, h)))
   where

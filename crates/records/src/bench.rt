@@ -13,7 +13,7 @@ pub enum Stage {
     Over,
 }
 
-// Kept: a public function whose promise docs/PROMISES.md and `RecordsDetermined` (demands) name.
+// Kept: a function that only says `==`. `bench` ends by it, and docs/PROMISES.md and `RecordsDetermined` (demands) name its promise.
 impl Stage {
     pub fn is_over(self) -> bool
         ensures { result ≡ is_over self }

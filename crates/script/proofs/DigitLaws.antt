@@ -53,7 +53,7 @@ worth_more (b ∷ s) c =
 abbrev pub onto : ℕ → ℕ → ℕ
 onto n c = n % 2 ^ 60 * 16 + digit_of c
 
-number_next : (s : List ℕ) (i : ℕ) → i < length s → onto (number_in (take i s)) (get_or s i 0) ≡ number_in (take (suc i) s)
+pub number_next : (s : List ℕ) (i : ℕ) → i < length s → number_in (take i s) % 2 ^ 60 * 16 + digit_of (get_or s i 0) ≡ number_in (take (suc i) s)
 unfolding number_in
 number_next s i h =
     let more = worth_more (take i s) (get_or s i 0) in

@@ -5,7 +5,7 @@
 mod lines;
 mod units;
 
-use console::Lines;
+use console::{Lines, read_on};
 use units::Trial;
 
 fn main() {
@@ -13,9 +13,12 @@ fn main() {
     let mut input = Lines::new();
     // A proved loop has to end: it counts its turns, up to a number that no run uses up.
     for _ in 0..u64::MAX {
+        read_on!(input);
         let Some(line) = input.next() else {
             return;
         };
+        let size = line.len();
         trial.run(line);
+        input.pass(size);
     }
 }

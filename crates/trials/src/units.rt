@@ -26,8 +26,8 @@ impl Trial {
     }
 
     // A fresh unit, and zeros in all of memory.
-    pub(crate) fn start(&mut self, mut line: Fields) {
-        let size = number(line.next()) as usize;
+    pub(crate) fn start(&mut self, line: Fields) {
+        let size = number(line.left) as usize;
         self.unit = fresh(size);
         self.size = size;
         self.memory = [0; ROOM];
@@ -36,7 +36,7 @@ impl Trial {
     // Sets one thing by its number, as lines has them.
     pub(crate) fn set(&mut self, mut line: Fields) {
         let what = byte(line.next());
-        let n = number(line.next());
+        let n = number(line.left);
         let low = (n % 256) as u8;
         let word = (n % 0x1_0000_0000) as u32;
         let u = &mut self.unit;
@@ -63,7 +63,7 @@ impl Trial {
         let row = (byte(line.next()) % 16) as usize;
         let start = number(line.next()) as usize;
         let end = number(line.next()) as usize;
-        let rights = byte(line.next());
+        let rights = byte(line.left);
         self.unit.windows.table[row] = Window {
             start,
             end,
@@ -79,6 +79,11 @@ impl Trial {
         let room = number(line.next()) as usize;
         let mut bytes = [0u8; 1100];
         let packet = console::bytes(line.left, &mut bytes);
+        self.take(name, packet, end, link, room);
+    }
+
+    // The buffer is filled where it is made: a local of that size is zeroed first where anything comes between.
+    fn take(&mut self, name: &[u8], packet: &[u8], end: End, link: u8, room: usize) {
         let mut out = [0xeeu8; ROOM];
         let reply = &mut out[..room.min(ROOM)];
         let unit = self.unit;
@@ -92,14 +97,14 @@ impl Trial {
     // Takes a Time-Code.
     pub(crate) fn time_code(&mut self, mut line: Fields) {
         let name = line.next();
-        let code = byte(line.next());
+        let code = byte(line.left);
         self.changed(name, unit::take_time_code(self.unit, code));
     }
 
     // Takes clock ticks.
     pub(crate) fn ticks(&mut self, mut line: Fields) {
         let name = line.next();
-        let n = (number(line.next()) % 0x1_0000_0000) as u32;
+        let n = (number(line.left) % 0x1_0000_0000) as u32;
         self.changed(name, unit::take_ticks(self.unit, n));
     }
 
@@ -113,7 +118,7 @@ impl Trial {
     pub(crate) fn memory(&self, mut line: Fields) {
         let name = line.next();
         let at = number(line.next()) as usize;
-        let count = number(line.next()) as usize;
+        let count = number(line.left) as usize;
         let all = &self.memory[..self.size.min(ROOM)];
         let from = all.get(at..).unwrap_or(&[]);
         say!(name; ": all {:02x}:{}\n", octets::crc_of(all), Row(first(from, count)));

@@ -2,7 +2,7 @@
 use Rattle.std.proofs.Common.{◌≡◌, zero-add, append-nil, drop_of_length-le, false, eqb, ◌≢◌, ne_eqb, ℕ, zero, suc, ◌+◌, ◌-◌, ◌<◌, ◌≤◌, List, [], ◌∷◌, ◌++◌, length, get_or, take, drop, drop_at, replicate, set, sym, refl, ap, ◌∙◌, add-one, arith, length-take-le}
 use lib.Seq.{paste, paste-suc}
 use Rattle.octets.specs.Places.{part, placed}
-use Rattle.octets.proofs.PlaceLaws.{pasted, length_part, length_placed, part_bytes, part_placed, part_split, placed_after, placed_none}
+use Rattle.octets.proofs.PlaceLaws.{pasted, length_part, length_placed, part_at, part_bytes, part_placed, part_split, placed_after, placed_none}
 use Rattle.packets.specs.Reading.{number_of}
 use Rattle.unit.specs.Fate.{Status, fate_number}
 use Rattle.unit.specs.declared.fate.Fate.{Fate}
@@ -60,6 +60,36 @@ module _ (rs ds ms : List ℕ) (d : length ds ≡ length rs) (m : length ms ≡ 
   combined_end e =
       let l = length_combined rs ds ms d m in
       e ∙ pasted rs 0 all (length rs) l ∙ rw (drop_of_length-le rs {i = 0 + length all} (omega (arith, l))) (append-nil all)
+
+-- and so where memory itself is written, at its place: its next byte is still what was read
+module _ (p m : List ℕ) (from count at : ℕ) (room : at + count ≤ length m) (whole : from + count + count ≤ length p) where
+  abbrev pub now_combined : List ℕ
+  now_combined = combined (part at count m) (part from count p) (part (from + count) count p)
+
+  next_byte : (i : ℕ) → i < count
+      → get_or now_combined i 0 ≡ combine_byte (get_or p (from + count + i) 0) (get_or p (from + i) 0) (get_or m (at + i) 0)
+  next_byte i h =
+      let r = length_part at count m room in
+      let d = length_part from count p (omega arith) in
+      let k = length_part (from + count) count p whole in
+      combined_at (part at count m) (part from count p) (part (from + count) count p) i (rw r h) (d ∙ sym r) (k ∙ sym r)
+      ∙ rw (part_at (from + count) count p i h, part_at from count p i h, part_at at count m i h)
+
+  memory_there : (i : ℕ) → i < count → get_or (paste m at now_combined i) (at + i) 0 ≡ get_or m (at + i) 0
+  memory_there i h =
+      let l : length (take i now_combined) ≡ i = length-take-le i now_combined (omega (arith, length_now p m from count at room whole)) in
+      let e : paste m at now_combined i ≡ placed at (take i now_combined) m = rw l in
+      ap (λ (s : List ℕ). get_or s (at + i) 0) e
+      ∙ placed_after at (take i now_combined) m (omega (arith, l)) (at + i) (omega (arith, l))
+
+  pub memory_next : {before : List ℕ} {b : ℕ} (i place : ℕ) → at + i ≡ place → i < count → before ≡ paste m at now_combined i
+      → b ≡ combine_byte (get_or p (from + count + i) 0) (get_or p (from + i) 0) (get_or before place 0)
+      → set before place b ≡ paste m at now_combined (i + 1)
+  memory_next {before} {b} i place there h e f =
+      let g : b ≡ get_or now_combined i 0 =
+      rw (← there) at f ∙ ap (λ (x : ℕ). combine_byte (get_or p (from + count + i) 0) (get_or p (from + i) 0) x) (ap (λ (s : List ℕ). get_or s (at + i) 0) e ∙ memory_there i h)
+      ∙ sym (next_byte i h) in
+      rw (e, g, add-one, ← there) (paste-suc m at now_combined i 0 (omega arith) (omega (arith, length_now p m from count at room whole)))
 
 -- bytes are gathered into a local, combined there, and scattered
 pub combined_between : (p m room : List ℕ) {read new then : List ℕ} (from count at : ℕ) → at + count ≤ length m → from + count + count ≤ length p → count ≤ length room

@@ -1,5 +1,5 @@
 -- Laws of fields.
-use Rattle.std.proofs.Common.{◌≡◌, ℕ, zero, suc, ◌+◌, ◌*◌, ◌/◌, ◌^◌, ◌<◌, ◌≤◌, Bool, true, false, cond, ◌&&◌, ◌||◌, eqb, ltb, leb, ◌⊎◌, List, [], ◌∷◌, ◌++◌, length, get_or, take, drop, sym, refl, ap, ◌∙◌, inl, inr, append_assoc, append-nil, add-one, arith, length-append, drop_of_length-le, drop-cons, ltb-true, eqb-true, leb-true, Option, Some, None, is_some, unwrap_or, Ok, Err}
+use Rattle.std.proofs.Common.{◌≡◌, ℕ, zero, suc, ◌+◌, ◌-◌, ◌*◌, ◌/◌, ◌^◌, ◌<◌, ◌≤◌, Bool, true, false, cond, ◌&&◌, ◌||◌, eqb, ltb, leb, ◌⊎◌, List, [], ◌∷◌, ◌++◌, length, get_or, take, take_all, drop, sym, refl, ap, ◌∙◌, inl, inr, append_assoc, append-nil, add-one, arith, length-append, drop_of_length-le, drop-cons, ltb-true, eqb-true, leb-true, Option, Some, None, is_some, unwrap_or, Ok, Err}
 use Rattle.std.specs.Option.{option_eq}
 use mathlib.Core.Bool.{false≢true}
 use borrow.Author.Tests.{eqb-false}
@@ -8,7 +8,8 @@ use Rattle.packets.specs.declared.header.Header.{Header}
 use borrow.Rule.Slice.PartMut.{put_mid}
 use Rattle.std.proofs.lemmas.Slice.{take-put_mid}
 use Rattle.octets.specs.Numbers.{bytes_of}
-use Rattle.octets.proofs.PlaceLaws.{first_true, second_true}
+use Rattle.octets.specs.Places.{part, placed, copied}
+use Rattle.octets.proofs.PlaceLaws.{copied_done, put_placed, first_true, second_true}
 use Rattle.octets.proofs.Tabulate.{at}
 use Rattle.packets.specs.declared.instruction.Kind.{Kind}
 use Rattle.packets.specs.declared.instruction.Kind.TheVariants.{Unused, Read, ReadModifyWrite, Write}
@@ -70,6 +71,17 @@ pub bytes_next : (v l out : List ℕ) {word : List ℕ} (i k : ℕ) → i < leng
 bytes_next v l out {word} i k h room e f =
     let four : length word ≡ 4 = ap length f in
     take-put_mid (4 * i) k out word (4 * (i + 1)) (omega (arith, four)) room ∙ rw (e, f, add-one) (sym (bytes_more v l i h))
+
+-- or was copied there
+pub bytes_copied : (v l out : List ℕ) {word then : List ℕ} (i : ℕ) → i < length l → 4 * i + 4 ≤ length out
+    → take (4 * i) out ≡ field_bytes v (take i l) → word ≡ bytes_of 4 (get_or v (row_of (get_or l i 0)) 0)
+    → then ≡ copied word 0 4 out (4 * i) → take (4 * (i + 1)) then ≡ field_bytes v (take (i + 1) l)
+bytes_copied v l out {word} {then} i h room e f g =
+    let four : length word ≡ 4 = ap length f in
+    let whole : part 0 4 word ≡ word = take_all 4 word (omega (arith, four)) in
+    let put : then ≡ put_mid (4 * i) (4 * i + 4 - 4 * i) out word =
+    g ∙ copied_done word 0 4 out (4 * i) (omega (arith, four)) room ∙ ap (λ (w : List ℕ). placed (4 * i) w out) whole ∙ sym (put_placed (4 * i) 4 word out four) in
+    ap (take (4 * (i + 1))) put ∙ bytes_next v l out i (4 * i + 4 - 4 * i) h (omega (arith, room)) e f
 
 -- ---- an obeyed write names one field: the two that are written are no neighbours
 

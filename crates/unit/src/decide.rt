@@ -50,7 +50,7 @@ impl Asked {
         if h.instruction.packet_type() != 1 {
             return Err(Offence::UnusedCode);
         }
-        if self.kind == Kind::Unused {
+        if self.kind.is_unused() {
             return Err(Offence::UnusedCode);
         }
         if h.key != key {
@@ -67,7 +67,7 @@ impl Asked {
         ensures { result ≡ Decide·span_size self.command.header }
     {
         let h = self.command.header;
-        if self.kind == Kind::ReadModifyWrite {
+        if self.kind.is_rmw() {
             return h.length / 2;
         }
         if h.instruction.is_incrementing() {
@@ -91,7 +91,7 @@ impl Asked {
         ensures { result ≡ Decide·span_status windows self.command.header }
     {
         let h = self.command.header;
-        if (self.kind == Kind::ReadModifyWrite) & ((8 < h.length) | (h.length % 2 != 0)) {
+        if self.kind.is_rmw() & ((8 < h.length) | (h.length % 2 != 0)) {
             return Err(Offence::RmwLength);
         }
         if !self.is_authorised(windows) {
@@ -152,7 +152,7 @@ impl Asked {
 fn is_field_length(kind: Kind, length: u32) -> bool
     ensures { result ≡ Decide·is_field_length kind length }
 {
-    if kind == Kind::ReadModifyWrite {
+    if kind.is_rmw() {
         return length == 8;
     }
     (length % 4 == 0) & (4 <= length) & (length <= 64)
@@ -162,7 +162,7 @@ fn is_field_length(kind: Kind, length: u32) -> bool
 fn field_count(kind: Kind, length: u32) -> u32
     ensures { result ≡ Decide·field_count kind length }
 {
-    if kind == Kind::ReadModifyWrite {
+    if kind.is_rmw() {
         return 1;
     }
     length / 4
@@ -197,7 +197,7 @@ impl Asked {
     fn wanted_count(self) -> usize
         ensures { result ≡ Decide·wanted_count self.command.header }
     {
-        if self.kind == Kind::Read {
+        if self.kind.is_read() {
             return 0;
         }
         self.command.header.length as usize + 1
@@ -208,7 +208,8 @@ impl Asked {
 fn data_status(k: usize, crc: u8, wanted: usize, end: End) -> Status
     ensures { result ≡ Decide·data_status k crc wanted end }
 {
-    if end != End::Eop {
+    let eop = end.is_eop();
+    if !eop {
         return Err(Offence::EndedByEep);
     }
     if k < wanted {
@@ -230,7 +231,7 @@ fn data_status(k: usize, crc: u8, wanted: usize, end: End) -> Status
 fn data_crc(bytes: &[u8], wanted: usize, end: End) -> u8
     ensures { Decide·data_status (length bytes.now) result wanted end ≡ Decide·data_status (length bytes.now) (Crc·crc bytes.now) wanted end }
 {
-    if end != End::Eop {
+    if !end.is_eop() {
         return 0;
     }
     if bytes.len() != wanted {
@@ -313,7 +314,7 @@ impl Asked {
         ensures { result ≡ Plan·reply_count self.command.header }
     {
         let h = self.command.header;
-        if self.kind == Kind::ReadModifyWrite {
+        if self.kind.is_rmw() {
             return h.length / 2;
         }
         h.length

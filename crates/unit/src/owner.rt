@@ -55,7 +55,7 @@ impl Owner {
     {
         (self.device != 0)
             & (self.initiator == sender.initiator)
-            & (self.path == sender.path)
+            & self.path.same(sender.path)
             & (self.link == sender.link)
     }
 

@@ -54,7 +54,7 @@ fn path_of(packet: &[u8]) -> Path {
 
 // Whether two commands have one path.
 pub(crate) fn same(name: &[u8], first: &[u8], second: &[u8]) {
-    if path_of(first) == path_of(second) {
+    if path_of(first).same(path_of(second)) {
         say!(name; ": one\n");
     } else {
         say!(name; ": two\n");

@@ -33,8 +33,8 @@ fn vector(verb: u8, mut line: Fields) {
     match verb {
         b'#' => say!(line.left; "\n"),
         b'c' => annex::pattern(line.next(), bytes(line.left, &mut [0; 64])),
-        b'l' => edges::row(line.next(), byte(line.next()), size(line.next())),
-        b'i' => instructions::show(line.next(), byte(line.next())),
+        b'l' => edges::row(line.next(), byte(line.next()), size(line.left)),
+        b'i' => instructions::show(line.next(), byte(line.left)),
         b'b' => commands::bare(line.next(), bytes(line.left, &mut [0; 64])),
         b'p' => commands::read(line.next(), bytes(line.left, &mut [0; 64])),
         b'a' => commands::address(line.next(), bytes(line.left, &mut [0; 64])),
@@ -48,16 +48,16 @@ fn vector(verb: u8, mut line: Fields) {
             line.next(),
             size(line.next()),
             size(line.next()),
-            size(line.next()),
+            size(line.left),
         ),
-        b'f' => edges::fill(line.next(), size(line.next()), size(line.next())),
+        b'f' => edges::fill(line.next(), size(line.next()), size(line.left)),
         b'n' => edges::write(
             line.next(),
             size(line.next()),
             size(line.next()),
-            number(line.next()),
+            number(line.left),
         ),
-        b'v' => edges::read(line.next(), size(line.next()), size(line.next())),
+        b'v' => edges::read(line.next(), size(line.next()), size(line.left)),
         _ => say!("no such line\n"),
     }
 }
@@ -86,7 +86,7 @@ fn repeated(mut line: Fields) {
         bytes(line.next(), &mut [0; 64]),
         byte(line.next()),
         size(line.next()),
-        Data::Repeated(byte(line.next()), count(line.next())),
+        Data::Repeated(byte(line.next()), count(line.left)),
     );
 }
 
@@ -96,7 +96,7 @@ fn around(mut line: Fields) {
         bytes(line.next(), &mut [0; 64]),
         byte(line.next()),
         size(line.next()),
-        Data::InPlace(count(line.next())),
+        Data::InPlace(count(line.left)),
     );
 }
 

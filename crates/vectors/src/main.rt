@@ -9,7 +9,7 @@ mod instructions;
 mod lines;
 mod times;
 
-use console::Lines;
+use console::{Lines, read_on};
 
 fn main() {
     annex::no_bytes();
@@ -19,9 +19,12 @@ fn main() {
     let mut input = Lines::new();
     // A proved loop has to end: it counts its turns, up to a number that no run uses up.
     for _ in 0..u64::MAX {
+        read_on!(input);
         let Some(line) = input.next() else {
             return;
         };
+        let size = line.len();
         lines::run(line);
+        input.pass(size);
     }
 }

@@ -1,7 +1,6 @@
 -- `packets::ccsds::read_ccsds` meets its contract: the tests of the definition, in its order; what is too short to tell has no right space packet.
-use Rattle.std.proofs.Common.{◌≡◌, ℕ, Bool, true, false, ◌&&◌, ◌||◌, List, eqb, get_or, rules, sym, ap, ap₂, ◌∙◌, arith}
+use Rattle.std.proofs.Common.{◌≡◌, ℕ, Bool, true, false, ◌&&◌, ◌||◌, List, eqb, get_or, sym, ap, ap₂, ◌∙◌, arith}
 use Rattle.std.proofs.lemmas.List.{take_rest}
-use Rattle.packets.specs.Reading.{is_eop}
 use Rattle.packets.specs.Ccsds.{is_space_packet, is_ccsds_packet, read_ccsds}
 use Rattle.packets.proofs.CcsdsLaws.{ccsds_thrown_away, ccsds_long}
 use Rattle.packets.proofs.ccsds.read_ccsds.Goals as goal
@@ -20,18 +19,16 @@ pub returns-then-packet-logical : goal.returns-then-packet-logical
 unfolding read_ccsds
 returns-then-packet-logical c =
     let a = c.args in
-    let eop : c.eq-eop.result ≡ is_eop a.end = search rules in
     let right = c.is_space_packet-right.ensures ∙ ap is_space_packet (take_rest a.packet.now 4) in
     let h : is_ccsds_packet a.packet.now a.end a.logical ≡ true =
-    ap₂ (tested a.packet.now a.logical) (sym eop) (sym right) ∙ c.if-packet-logical.true in
+    ap₂ (tested a.packet.now a.logical) (sym c.is_eop-eop.ensures) (sym right) ∙ c.if-packet-logical.true in
     rw h
 
 pub returns : goal.returns
 unfolding read_ccsds
 returns c =
     let a = c.args in
-    let eop : c.eq-eop.result ≡ is_eop a.end = search rules in
     let right = c.is_space_packet-right.ensures ∙ ap is_space_packet (take_rest a.packet.now 4) in
     let h : is_ccsds_packet a.packet.now a.end a.logical ≡ false =
-    ap₂ (tested a.packet.now a.logical) (sym eop) (sym right) ∙ c.if-packet-logical.false in
+    ap₂ (tested a.packet.now a.logical) (sym c.is_eop-eop.ensures) (sym right) ∙ c.if-packet-logical.false in
     rw h

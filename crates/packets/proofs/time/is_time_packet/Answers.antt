@@ -4,8 +4,6 @@ use Prim.Native.Nat.{◌+◌, ◌-◌}
 use native.Mathlib.Omega.{arith}
 use borrow.Author.Tests.{eq-eqb}
 use lib.ListN.{length}
-use Rattle.std.proofs.Common.{rules}
-use Rattle.packets.specs.Reading.{is_eop}
 use Rattle.packets.specs.Time.{added_seconds, added_fraction}
 use Rattle.packets.proofs.TimeLaws.{zeros_worth}
 use Rattle.packets.proofs.time.is_time_packet.Goals as goal
@@ -16,5 +14,4 @@ returns c =
     let size : length p ≡ 12 + added_seconds p + added_fraction p =
     omega (arith, c.if-p-seconds.false, c.added_seconds-seconds.ensures, c.added_fraction.ensures) in
     let more : 4 + c.added_seconds-seconds.result - 4 ≡ added_seconds p = omega (arith, c.added_seconds-seconds.ensures) in
-    let eop : c.eq-eop.result ≡ is_eop c.args.end = search rules in
-    rw (eq-eqb _ _ size, c.crc_of-sum.ensures, eop, c.are_zeros-zeros.ensures, zeros_worth, more)
+    rw (eq-eqb _ _ size, c.crc_of-sum.ensures, c.is_eop-eop.ensures, c.are_zeros-zeros.ensures, zeros_worth, more)

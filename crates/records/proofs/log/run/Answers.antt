@@ -13,7 +13,7 @@ say-used-requires c =
     let s = take (length c.args.log.now - l.used) (drop l.used c.args.log.now) in
     let next = sym c.next_of.ensures ∙ c.in-Some.is in
     let is = ap (λ (s : List ℕ). next_of l.held.bench.stage s c.args.last) (sym (rest_is c.args.log.now l.used)) ∙ next in
-    (has_line _ _ _ _ _ _ _ l.invariant room _ is, next_fits l.held.bench.stage s c.args.last _ next)
+    (has_line _ _ _ _ _ _ _ _ l.invariant room _ is, next_fits l.held.bench.stage s c.args.last _ next)
 
 -- a turn: what holds after it, and that less is left to do
 turns : goal.loop-rest-preserved × goal.loop-rest-smaller
@@ -24,7 +24,7 @@ turns =
     let a = c.args in
     let room = ap (leb (longest_line (length l.held.reply.now))) (sym c.room.ensures) ∙ sym c.has_room.ensures ∙ c.loop-rest-test.true in
     let is = ap (λ (s : List ℕ). next_of l.held.bench.stage s a.last) (sym (rest_is a.log.now l.used)) ∙ sym c.next_of.ensures ∙ c.in-Some.is in
-    got_next a.log.now a.last _ _ l.held l.used l.page l.invariant room _ is _ _ _ (rw (rest_is a.log.now l.used) at c.say-used.ensures))
+    got_next a.log.now a.last _ _ _ l.held l.used l.page l.invariant room _ is _ _ _ (rw (rest_is a.log.now l.used) at c.say-used.ensures))
 
 pub loop-rest-preserved : goal.loop-rest-preserved
 loop-rest-preserved = turns.0
@@ -38,11 +38,11 @@ returns c =
     let a = c.args in
     let room = ap (leb (longest_line (length l.held.reply.now))) (sym c.room.ensures) ∙ sym c.has_room.ensures in
     let stops : next_step a.log.now a.last (length a.out.now) (reached l.held l.used l.page) ≡ None = elim c.loop-rest-test.branch [
-      | else-loop-rest-test w ↦ stops_full _ _ _ _ l.held l.used l.page l.invariant (room ∙ w.loop-rest-test.false)
-      | then-loop-rest-test+in_default w ↦ stops_silent _ _ _ _ l.held l.used l.page l.invariant
+      | else-loop-rest-test w ↦ stops_full _ _ _ _ _ l.held l.used l.page l.invariant (room ∙ w.loop-rest-test.false)
+      | then-loop-rest-test+in_default w ↦ stops_silent _ _ _ _ _ l.held l.used l.page l.invariant
           (ap (λ (s : List ℕ). next_of l.held.bench.stage s a.last) (sym (rest_is a.log.now l.used)) ∙ sym w.next_of.ensures ∙ w.in_default.is)
     ] in
-    let all = got_all a.log.now a.last _ _ l.held l.used l.page l.invariant stops in
+    let all = got_all a.log.now a.last _ _ _ l.held l.used l.page l.invariant stops in
     let lent = l.invariant.lent in
     record {
       answers = all.0;

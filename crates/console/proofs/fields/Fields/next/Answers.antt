@@ -1,5 +1,7 @@
--- `console::fields::Fields::next` meets its contract: script::field and script::rest tell of the two parts.
+-- `console::fields::Fields::next` meets its contract: script::field tells what the first field is, and so how long.
+use native.Mathlib.Omega.{arith}
+use Rattle.std.proofs.lemmas.Grind.{common_steps}
 use Rattle.console.proofs.fields.Fields.next.Goals as goal
 
-pub returns : goal.returns
-returns c = record { answers = c.field.ensures; leaves = c.rest-self.ensures }
+pub returns-clause-leaves : goal.returns-clause-leaves
+returns-clause-leaves c = grind (arith, common_steps)

@@ -9,9 +9,10 @@ returns-then-not-fits c =
     let a = c.args in
     let k = a.self.command in
     let counts = rw c.size.ensures at c.carried_count-n.ensures in
+    let both = reply_refused k.path k.header a.self.status a.bytes c.carried_count-n.result counts a.out.now c.fits.ensures c.if-not-fits.true in
     record {
-      answers = sym c.if-not-fits.true ∙ reply_answer k.path k.header a.self.status a.bytes c.carried_count-n.result counts a.out.now c.fits.ensures;
-      leaves = reply_refused k.path k.header a.self.status a.bytes c.carried_count-n.result counts a.out.now c.fits.ensures c.if-not-fits.true;
+      answers = both.0;
+      leaves = both.1;
     }
 
 pub put_data-requires : goal.put_data-requires
