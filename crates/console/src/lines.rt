@@ -4,7 +4,7 @@ ghost use Rattle.script.specs.Fields.{up_to, line_end};
 ghost use Rattle.console.specs.Lines.{none_read, left as Lines·left, has_line as Lines·has_line, line_of, passed, wants_more as Lines·wants_more, moved, come as Lines·come};
 
 // A buffer of 64 KiB: the bytes from `from` up to `have` are read and not given out, and those of them up to `whole` are of whole lines. `last`
-// says that no more come.
+// says that no more come. The space is public, since `read_on!` reads into it; whatever is put there, each function answers.
 #[derive(Drop)]
 pub struct Lines {
     pub space: [u8; 65536],
