@@ -6,14 +6,14 @@ use mathlib.Core.List.{List, [], ◌∷◌}
 use Prim.Native.Nat.{ℕ, ◌+◌, ◌-◌, ◌≤◌}
 use lib.Dec.{eqb}
 use borrow.Author.Tests.{leb-true}
-use lib.ListN.{length, take, drop, length-take}
+use lib.ListN.{length, take, drop}
 use lib.Seq.{take-take}
 use Rattle.octets.specs.Places.{part, placed, within, copied}
 use Rattle.octets.proofs.PlaceLaws.{length_part, copied_done, copied_none}
 use Rattle.script.specs.Fields.{up_to, line_end}
 use Rattle.script.proofs.FieldLaws.{up_to_take}
-use Rattle.console.specs.Lines.{left, moved}
-use Rattle.console.specs.declared.lines.Lines.{Lines}
+use Rattle.console.specs.Input.{unfinished, moved}
+use Rattle.console.specs.declared.lines.Input.{Input}
 
 -- what stands before a byte has nothing behind it
 pub up_to_twice : (stop : ℕ) (s : List ℕ) → up_to stop (up_to stop s) ≡ up_to stop s
@@ -39,47 +39,33 @@ a_line s from have end is inside =
     ∙ up_to_take line_end x in
     ap (up_to line_end) cut ∙ up_to_twice line_end x ∙ sym cut
 
--- of those up to `whole`, the ones before the first line end are the part that has as many
-pub first_line :
-    (s : List ℕ) (from whole n : ℕ)
-    → n ≡ length (up_to line_end (part from (whole - from) s))
-    → n ≤ length (part from (whole - from) s)
-    → part from (from + n - from) s ≡ up_to line_end (part from (whole - from) s)
-first_line s from whole n is inside =
-    let x = part from (whole - from) s in
-    let size = length-take (whole - from) (drop from s) in
-    sym (take-take (from + n - from) (whole - from) (drop from s) (omega (arith, size)))
-    ∙ ap (λ (k : ℕ). take k x) (omega arith)
-    ∙ up_to_take line_end x
+-- the first line is the part that has as many bytes, and has no line end in it
+pub first_line : (s : List ℕ) (n : ℕ) → n ≡ length (up_to line_end s) → take n s ≡ up_to line_end s
+first_line s n is = ap (λ (k : ℕ). take k s) is ∙ up_to_take line_end s
 
--- it has no line end in it
-pub line_alone :
-    (s : List ℕ) (from whole n : ℕ)
-    → n ≡ length (up_to line_end (part from (whole - from) s))
-    → n ≤ length (part from (whole - from) s)
-    → up_to line_end (part from (from + n - from) s) ≡ part from (from + n - from) s
-line_alone s from whole n is inside =
-    let cut = first_line s from whole n is inside in
-    ap (up_to line_end) cut ∙ up_to_twice line_end (part from (whole - from) s) ∙ sym cut
+pub line_alone : (s : List ℕ) (n : ℕ) → n ≡ length (up_to line_end s) → up_to line_end (take n s) ≡ take n s
+line_alone s n is =
+    let cut = first_line s n is in
+    ap (up_to line_end) cut ∙ up_to_twice line_end s ∙ sym cut
 
 -- what is left is no longer than the buffer, and at its start once it was moved there
-moved_left : (l : Lines) → (copied l.space l.from (length (left l)) l.space 0 ≡ placed 0 (left l) l.space) × (length (left l) ≤ length l.space)
-moved_left l = go (l.have - l.from) (within l.from (l.have - l.from) l.space) refl
+moved_left : (i : Input) → (copied i.space i.whole (length (unfinished i)) i.space 0 ≡ placed 0 (unfinished i) i.space) × (length (unfinished i) ≤ length i.space)
+moved_left i = go (i.have - i.whole) (within i.whole (i.have - i.whole) i.space) refl
   where
     go :
         (n : ℕ)
         → (t : Bool)
-        → within l.from n l.space ≡ t
-        → (copied l.space l.from (length (cond t (part l.from n l.space) [])) l.space 0 ≡ placed 0 (cond t (part l.from n l.space) []) l.space)
-        × (length (cond t (part l.from n l.space) []) ≤ length l.space)
+        → within i.whole n i.space ≡ t
+        → (copied i.space i.whole (length (cond t (part i.whole n i.space) [])) i.space 0 ≡ placed 0 (cond t (part i.whole n i.space) []) i.space)
+        × (length (cond t (part i.whole n i.space) []) ≤ length i.space)
     go n true e =
-        let h = leb-true (l.from + n) (length l.space) e in
-        let s = length_part l.from n l.space h in
-        (ap (λ (k : ℕ). copied l.space l.from k l.space 0) s ∙ copied_done l.space l.from n l.space 0 h (omega arith), omega (arith, s))
-    go n false e = (copied_none l.space l.from 0 l.space 0 refl, omega arith)
+        let h = leb-true (i.whole + n) (length i.space) e in
+        let s = length_part i.whole n i.space h in
+        (ap (λ (k : ℕ). copied i.space i.whole k i.space 0) s ∙ copied_done i.space i.whole n i.space 0 h (omega arith), omega (arith, s))
+    go n false e = (copied_none i.space i.whole 0 i.space 0 refl, omega arith)
 
-pub left_moved : (l : Lines) (n : ℕ) (then : List ℕ) → n ≡ length (left l) → then ≡ copied l.space l.from n l.space 0
-    → record { space = then; from = 0; whole = 0; have = n; last = l.last } ≡ moved l
-left_moved l n then n_is then_is =
-    let start : then ≡ placed 0 (left l) l.space = then_is ∙ ap (λ (k : ℕ). copied l.space l.from k l.space 0) n_is ∙ (moved_left l).0 in
-    λ i. record { space = start i; from = 0; whole = 0; have = n_is i; last = l.last }
+pub left_moved : (i : Input) (n : ℕ) (then : List ℕ) → n ≡ length (unfinished i) → then ≡ copied i.space i.whole n i.space 0
+    → record { space = then; whole = 0; have = n; last = i.last } ≡ moved i
+left_moved i n then n_is then_is =
+    let start : then ≡ placed 0 (unfinished i) i.space = then_is ∙ ap (λ (k : ℕ). copied i.space i.whole k i.space 0) n_is ∙ (moved_left i).0 in
+    λ j. record { space = start j; whole = 0; have = n_is j; last = i.last }

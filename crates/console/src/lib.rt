@@ -7,5 +7,5 @@ mod lines;
 mod show;
 
 pub use fields::{Fields, bytes};
-pub use lines::Lines;
+pub use lines::{Input, Lines};
 pub use show::{Row, Text};

@@ -5,20 +5,25 @@
 mod lines;
 mod units;
 
-use console::{Lines, read_on};
+use console::{Input, read_on};
 use units::Trial;
 
 fn main() {
     let mut trial = Trial::new();
-    let mut input = Lines::new();
+    let mut input = Input::new();
     // A proved loop has to end: it counts its turns, up to a number that no run uses up.
     for _ in 0..u64::MAX {
         read_on!(input);
-        let Some(line) = input.next() else {
+        let mut lines = input.lines();
+        // Each line takes a byte at least.
+        for _ in 0..input.whole {
+            let Some(line) = lines.next() else {
+                break;
+            };
+            trial.run(line);
+        }
+        if input.last || input.whole == 0 {
             return;
-        };
-        let size = line.len();
-        trial.run(line);
-        input.pass(size);
+        }
     }
 }

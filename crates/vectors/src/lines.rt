@@ -21,8 +21,19 @@ use console::{Fields, bytes, say};
 use packets::{Data, End};
 use script::{byte, number};
 
+// Runs lines.
+// Kept: by place. By `Lines::next`, which `trials` takes them by, lines with nothing in them took twice as long.
+pub(crate) fn each(s: &[u8]) {
+    let mut at = 0;
+    while at < s.len() {
+        let size = script::line_size(&s[at..]);
+        run(&s[at..at + size]);
+        at = at + size + 1;
+    }
+}
+
 // Runs a line, without its end.
-pub(crate) fn run(line: &[u8]) {
+fn run(line: &[u8]) {
     let [verb, _, left @ ..] = line else {
         return;
     };

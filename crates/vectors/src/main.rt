@@ -9,22 +9,20 @@ mod instructions;
 mod lines;
 mod times;
 
-use console::{Lines, read_on};
+use console::{Input, read_on};
 
 fn main() {
     annex::no_bytes();
     annex::table();
     edges::numbers_of_bytes();
     edges::bytes_of_numbers();
-    let mut input = Lines::new();
+    let mut input = Input::new();
     // A proved loop has to end: it counts its turns, up to a number that no run uses up.
     for _ in 0..u64::MAX {
         read_on!(input);
-        let Some(line) = input.next() else {
+        lines::each(input.lines().left);
+        if input.last || input.whole == 0 {
             return;
-        };
-        let size = line.len();
-        lines::run(line);
-        input.pass(size);
+        }
     }
 }

@@ -1,6 +1,0 @@
--- `console::lines::Lines::come` meets its contract: no count goes past the buffer's end.
-use Rattle.std.proofs.Common.{rules}
-use Rattle.console.proofs.lines.Lines.come.Goals as goal
-
-pub returns : goal.returns
-returns c = search rules

@@ -1,6 +1,0 @@
--- `console::lines::Lines::new` meets its contract: nothing is read.
-use Rattle.std.proofs.Common.{refl}
-use Rattle.console.proofs.lines.Lines.new.Goals as goal
-
-pub returns : goal.returns
-returns c = refl
