@@ -1,18 +1,20 @@
--- Laws of lines: what stands before the first line end has none, wherever it lies in a buffer; and bytes that are put behind those that are left are one row with them.
+-- Laws of lines: what stands before the first line end has none, wherever it lies in a buffer; what is left of an input goes to the buffer's start; and whole lines are inside what is read.
 use native.Mathlib.Omega.{arith}
 use mathlib.Core.Path.{◌≡◌, refl, sym, ap, ◌∙◌}
 use mathlib.Core.Bool.{Bool, true, false, cond}
 use mathlib.Core.List.{List, [], ◌∷◌}
 use Prim.Native.Nat.{ℕ, ◌+◌, ◌-◌, ◌≤◌}
+use Rattle.std.specs.Prelude.{ltb}
 use lib.Dec.{eqb}
 use borrow.Author.Tests.{leb-true}
 use lib.ListN.{length, take, drop}
+use Rattle.std.proofs.lemmas.List.{length-take}
 use lib.Seq.{take-take}
 use Rattle.octets.specs.Places.{part, placed, within, copied}
 use Rattle.octets.proofs.PlaceLaws.{length_part, copied_done, copied_none}
-use Rattle.script.specs.Fields.{up_to, line_end}
+use Rattle.script.specs.Fields.{up_to, line_end, runnable}
 use Rattle.script.proofs.FieldLaws.{up_to_take}
-use Rattle.console.specs.Input.{unfinished, moved}
+use Rattle.console.specs.Input.{buffer, none_read, unfinished, moved, have_come, come}
 use Rattle.console.specs.declared.lines.Input.{Input}
 
 -- what stands before a byte has nothing behind it
@@ -69,3 +71,27 @@ pub left_moved : (i : Input) (n : ℕ) (then : List ℕ) → n ≡ length (unfin
 left_moved i n then n_is then_is =
     let start : then ≡ placed 0 (unfinished i) i.space = then_is ∙ ap (λ (k : ℕ). copied i.space i.whole k i.space 0) n_is ∙ (moved_left i).0 in
     λ j. record { space = start j; whole = 0; have = n_is j; last = i.last }
+
+-- What each function leaves: the whole lines are inside what is read, and that is inside the buffer.
+abbrev pub Inside : Input → Type 0
+Inside i = (i.whole ≤ i.have) × (i.have ≤ buffer)
+
+pub none_read_inside : Inside none_read
+none_read_inside = (omega arith, omega arith)
+
+pub moved_inside : (i : Input) → length i.space ≡ buffer → Inside (moved i)
+moved_inside i size =
+    let fits = (moved_left i).1 in
+    (omega arith, omega (arith, fits, size))
+
+-- lines that can be run are of the bytes that are there
+runnable_inside : (last : Bool) (s : List ℕ) → runnable last s ≤ length s
+runnable_inside true s = omega arith
+runnable_inside false s = omega arith
+
+pub come_inside : (n : ℕ) (i : Input) → Inside (come n i)
+come_inside n i =
+    let h = have_come n i in
+    let short = length-take h i.space in
+    let run = runnable_inside (ltb h buffer) (take h i.space) in
+    (omega (arith, short, run), omega arith)
