@@ -12,8 +12,8 @@ use Rattle.std.proofs.lemmas.List.{length-take}
 use lib.Seq.{take-take}
 use Rattle.octets.specs.Places.{part, placed, within, copied}
 use Rattle.octets.proofs.PlaceLaws.{length_part, copied_done, copied_none}
-use Rattle.script.specs.Fields.{up_to, line_end, runnable}
-use Rattle.script.proofs.FieldLaws.{up_to_take}
+use Rattle.script.specs.Fields.{up_to, line_end}
+use Rattle.script.proofs.FieldLaws.{up_to_take, runnable_inside}
 use Rattle.console.specs.Input.{buffer, none_read, unfinished, moved, have_come, come}
 use Rattle.console.specs.declared.lines.Input.{Input}
 
@@ -83,11 +83,6 @@ pub moved_inside : (i : Input) → length i.space ≡ buffer → Inside (moved i
 moved_inside i size =
     let fits = (moved_left i).1 in
     (omega arith, omega (arith, fits, size))
-
--- lines that can be run are of the bytes that are there
-runnable_inside : (last : Bool) (s : List ℕ) → runnable last s ≤ length s
-runnable_inside true s = omega arith
-runnable_inside false s = omega arith
 
 pub come_inside : (n : ℕ) (i : Input) → Inside (come n i)
 come_inside n i =

@@ -32,6 +32,11 @@ a_line = refl
 pub a_last_line : runnable true (0x61 ∷ 0x0a ∷ 0x62 ∷ []) ≡ 3
 a_last_line = refl
 
+-- lines that can be run are of the bytes that are there
+pub runnable_inside : (last : Bool) (s : List ℕ) → runnable last s ≤ length s
+runnable_inside true s = omega arith
+runnable_inside false s = omega arith
+
 -- what stands before a byte is a first part
 pub up_to_take : (stop : ℕ) (s : List ℕ) → take (length (up_to stop s)) s ≡ up_to stop s
 unfolding up_to
